@@ -1,0 +1,4 @@
+pub enum Checked {
+    Value(i64),
+    Overflow,
+}
