@@ -1,2 +1,4 @@
 pub mod Entries
 pub mod Run
+pub mod Agreement
+pub mod Shape
