@@ -3,7 +3,7 @@ use Prim.Native.Nat.{ℕ, _+_, _*_, _/_, _%_, _^_}
 use mathlib.Core.Bool.{Bool, true, false}
 use mathlib.Core.Path.{_≡_, refl}
 use lib.Dec.{ltb, leb, eqb}
-use lib.IntN.{ℤ, pos, negsuc, negℤ, natAbs}
+use lib.IntN.{ℤ, pos, negsuc, negℤ, _+ℤ_, _-ℤ_, natAbs}
 use lib.Signed.{mag}
 use Rattle.arith.specs.declared.Checked.{Checked}
 use Rattle.arith.specs.declared.Checked.the-variants.{Value, Overflow}
@@ -58,3 +58,18 @@ quotients = (refl, refl, refl)
 pub quotients-ends : (quotient (pos 9223372036854775807) 2 ≡ pos 4611686018427387904) × (quotient (negsuc 9223372036854775807) 1 ≡ negsuc 9223372036854775807) × (quotient (negsuc 9223372036854775807) 3 ≡ negsuc 3074457345618258602)
 unfolding quotient roundsUp
 quotients-ends = (refl, refl, refl)
+
+-- both ends by the largest divisor
+pub quotients-largest-divisor : (quotient (pos 9223372036854775807) 1000000 ≡ pos 9223372036855) × (quotient (negsuc 9223372036854775807) 1000000 ≡ negsuc 9223372036854)
+unfolding quotient roundsUp
+quotients-largest-divisor = (refl, refl)
+
+-- below 0: a half next to the lowest number (at it no divisor leaves one), -1/2, and just less than that
+pub quotients-halves : (quotient (negsuc 9223372036854775806) 2 ≡ negsuc 4611686018427387903) × (quotient (negsuc 499999) 1000000 ≡ negsuc 0) × (quotient (negsuc 499998) 1000000 ≡ pos 0)
+unfolding quotient roundsUp
+quotients-halves = (refl, refl, refl)
+
+-- document 01, case 7: the highest number and 1; then the lowest less 1, the lowest negated, and the sum of both ends
+pub sums-ends : (bounded (pos 9223372036854775807 +ℤ pos 1) ≡ Overflow) × (bounded (negsuc 9223372036854775807 -ℤ pos 1) ≡ Overflow) × (bounded (pos 0 -ℤ negsuc 9223372036854775807) ≡ Overflow) × (bounded (negsuc 9223372036854775807 +ℤ pos 9223372036854775807) ≡ Value (negsuc 0))
+unfolding fits
+sums-ends = (refl, refl, refl, refl)

@@ -1,39 +1,233 @@
--- Laws of signed numbers. Assumes nothing.
-use Prim.Native.Nat.{ℕ, zero, suc, _+_, _*_, _/_, _%_, _^_, _≤_}
-use mathlib.Core.Path.{_≡_, refl, sym, ap, subst}
-use mathlib.Core.Bool.{Bool, true, false}
-use lib.Dec.{T, leb}
-use lib.Signed.{mag}
+-- The laws of the definitions in Integer: the range, equality, bits and division; and sums of signed numbers for `omega`. Assumes nothing.
+use Prim.Native.Nat.{ℕ, zero, suc, _+_, _-_, _*_, _/_, _%_, _^_, _≤_, _<_}
+use mathlib.Core.Path.{_≡_, refl, sym, ap, subst, _∙_}
+use mathlib.Core.Bool.{Bool, true, false, not, cond}
+use native.Mathlib.Nat.{zero-mul, suc-mul, le-antisymm, le-mul-of-pos-right, lt-of-mul-lt-mul-right, div-add-mod', mod-lt}
+use native.Mathlib.Numerals.{add-one}
 use native.Mathlib.Omega.{arith}
-use native.Mathlib.Nat.{div-add-mod', mul-le-mul-left}
-use lib.IntN.{ℤ, pos, negsuc, negℤ}
-use borrow.Author.Tests.{eq-eqb, eqb-true, leb-true, lt-ltb, ltb-true}
-use Rattle.arith.specs.Integer.{eqZ, fits, quotient, rounded, roundsUp, pickNat}
+use lib.Dec.{T, ltb}
+use lib.IntN.{ℤ, pos, negsuc, negℤ, subℕ, _+ℤ_, _-ℤ_, _*ℤ_, natAbs}
+use lib.Signed.{mag, ltZ}
+use borrow.Author.Tests.{eq-eqb, eqb-true, leb-true, leb-false, ltb-true, ltb-false, lt-ltb, le-ltb}
+use mir.Syntax.{w64}
+use mir.Val.{SFits, toZ, ofZ}
+use mir.Facts.{toZ-ofZ}
+use Rattle.arith.specs.declared.Checked.the-variants.{Value, Overflow}
+use Rattle.arith.specs.Integer.{fits, pickChecked, bounded, roundsUp, pickNat, rounded, quotient, eqZ}
 
-pub eqZ-refl : (a : ℤ) → eqZ a a ≡ true
-eqZ-refl (pos a) = eq-eqb a a refl
-eqZ-refl (negsuc a) = eq-eqb a a refl
+-- ---- a signed number as two naturals, so that `omega` reads sums, differences and orders: z is posPart z less negPart z, and one of them is 0
 
-pub eqZ-true : (a b : ℤ) → eqZ a b ≡ true → a ≡ b
+unfoldable pub posPart : ℤ → ℕ
+posPart (pos n) = n
+posPart (negsuc n) = 0
+
+unfoldable pub negPart : ℤ → ℕ
+negPart (pos n) = 0
+negPart (negsuc n) = suc n
+
+subℕ-by : (a b : ℕ) (t : Bool) → ltb a b ≡ t → posPart (cond t (negsuc (b - suc a)) (pos (a - b))) + b ≡ a + negPart (cond t (negsuc (b - suc a)) (pos (a - b)))
+unfolding posPart negPart
+subℕ-by a b true e = omega (arith, ltb-true a b e)
+subℕ-by a b false e = omega (arith, ltb-false a b e)
+
+subℕ-parts : (a b : ℕ) → posPart (subℕ a b) + b ≡ a + negPart (subℕ a b)
+subℕ-parts a b = subℕ-by a b (ltb a b) refl
+
+pub sum-parts : (x y : ℤ) → posPart (x +ℤ y) + negPart x + negPart y ≡ posPart x + posPart y + negPart (x +ℤ y)
+unfolding posPart negPart
+sum-parts (pos a) (pos b) = omega arith
+sum-parts (pos a) (negsuc b) = omega (arith, subℕ-parts a (suc b))
+sum-parts (negsuc a) (pos b) = omega (arith, subℕ-parts b (suc a))
+sum-parts (negsuc a) (negsuc b) = omega arith
+
+neg-parts : (y : ℤ) → (posPart (negℤ y) ≡ negPart y) × (negPart (negℤ y) ≡ posPart y)
+unfolding posPart negPart
+neg-parts (pos zero) = (refl, refl)
+neg-parts (pos (suc n)) = (refl, refl)
+neg-parts (negsuc n) = (refl, refl)
+
+pub difference-parts : (x y : ℤ) → posPart (x -ℤ y) + negPart x + posPart y ≡ posPart x + negPart y + negPart (x -ℤ y)
+difference-parts x y = omega (arith, sum-parts x (negℤ y), neg-parts y)
+
+pub less-parts : (x y : ℤ) → ltZ x y ≡ true → posPart x + negPart y < posPart y + negPart x
+unfolding posPart negPart
+less-parts (pos a) (pos b) e = omega (arith, ltb-true a b e)
+less-parts (pos a) (negsuc b) e = absurd (subst T (sym e) tt)
+less-parts (negsuc a) (pos b) e = omega arith
+less-parts (negsuc a) (negsuc b) e = omega (arith, ltb-true b a e)
+
+pub not-less-parts : (x y : ℤ) → ltZ x y ≡ false → posPart y + negPart x ≤ posPart x + negPart y
+unfolding posPart negPart
+not-less-parts (pos a) (pos b) e = omega (arith, ltb-false a b e)
+not-less-parts (pos a) (negsuc b) e = omega arith
+not-less-parts (negsuc a) (pos b) e = absurd (subst (λ (t : Bool). T (not t)) (sym e) tt)
+not-less-parts (negsuc a) (negsuc b) e = omega (arith, ltb-false b a e)
+
+-- numbers whose parts differ by the same are equal
+pub same-parts : (x y : ℤ) → posPart x + negPart y ≡ posPart y + negPart x → x ≡ y
+unfolding posPart negPart
+same-parts (pos a) (pos b) e = ap pos (omega arith)
+same-parts (pos a) (negsuc b) e = absurd (omega arith)
+same-parts (negsuc a) (pos b) e = absurd (omega arith)
+same-parts (negsuc a) (negsuc b) e = ap negsuc (omega arith)
+
+-- ---- the range
+
+pub fits→SFits : (z : ℤ) → fits z ≡ true → SFits w64 z
+unfolding fits
+fits→SFits z e = record { sfits = ltb-true (mag z) (2 ^ 63) e }
+
+pub SFits→fits : {z : ℤ} → SFits w64 z → fits z ≡ true
+unfolding fits
+SFits→fits {z} f = lt-ltb (mag z) (2 ^ 63) (f .sfits)
+
+-- by the parts: what a number in the range has, and what shows that a number is in it, above it or below it
+pub fits-parts : (z : ℤ) → fits z ≡ true → (posPart z < 2 ^ 63) × (negPart z ≤ 2 ^ 63)
+unfolding fits posPart negPart
+fits-parts (pos n) e = omega (arith, ltb-true n (2 ^ 63) e)
+fits-parts (negsuc n) e = omega (arith, ltb-true n (2 ^ 63) e)
+
+pub in-range : (z : ℤ) → (posPart z < 2 ^ 63 + negPart z) × (negPart z ≤ 2 ^ 63 + posPart z) → fits z ≡ true
+unfolding fits posPart negPart
+in-range (pos n) h = lt-ltb n (2 ^ 63) (omega arith)
+in-range (negsuc n) h = lt-ltb n (2 ^ 63) (omega arith)
+
+pub above-range : (z : ℤ) → 2 ^ 63 + negPart z ≤ posPart z → fits z ≡ false
+unfolding fits posPart negPart
+above-range (pos n) h = le-ltb n (2 ^ 63) (omega arith)
+above-range (negsuc n) h = le-ltb n (2 ^ 63) (omega arith)
+
+pub below-range : (z : ℤ) → 2 ^ 63 + posPart z < negPart z → fits z ≡ false
+unfolding fits posPart negPart
+below-range (pos n) h = le-ltb n (2 ^ 63) (omega arith)
+below-range (negsuc n) h = le-ltb n (2 ^ 63) (omega arith)
+
+-- what an answer of `add` or `subtract` says of the sum or difference z
+module _ (z : ℤ) where
+  value-by : (v : ℤ) (t : Bool) → pickChecked t (Value z) Overflow ≡ Value v → (t ≡ true) × (z ≡ v)
+  value-by v true e = (refl, (cc))
+  value-by v false e = let n : _≡_ {A = ℕ} 0 1 = cc in absurd (omega arith)
+
+  overflow-by : (t : Bool) → pickChecked t (Value z) Overflow ≡ Overflow → t ≡ false
+  overflow-by true e = let n : _≡_ {A = ℕ} 0 1 = cc in absurd (omega arith)
+  overflow-by false e = refl
+
+  pub bounded-value : (v : ℤ) → bounded z ≡ Value v → (fits z ≡ true) × (z ≡ v)
+  bounded-value v e = value-by v (fits z) e
+
+  pub bounded-overflow : bounded z ≡ Overflow → fits z ≡ false
+  bounded-overflow e = overflow-by (fits z) e
+
+-- ---- bits
+
+-- every word is the bits of a number in the range; past 64 bits `toZ w64` gives -1
+pub fits-toZ : (v : ℕ) → fits (toZ w64 v) ≡ true
+unfolding fits
+fits-toZ v = by (ltb v (2 ^ 63)) refl
+  where
+    by : (t : Bool) → ltb v (2 ^ 63) ≡ t → fits (toZ w64 v) ≡ true
+    by true e = rw e (lt-ltb v (2 ^ 63) (ltb-true v (2 ^ 63) e))
+    by false e = rw e (lt-ltb (2 ^ 64 - suc v) (2 ^ 63) (omega (arith, ltb-false v (2 ^ 63) e)))
+
+-- a number in the range is read back from its bits
+pub read-back : {z : ℤ} → mag z < 2 ^ 63 → toZ w64 (ofZ w64 z) ≡ z
+read-back h = toZ-ofZ (record { sfits = h })
+
+pub same-bits : {y z : ℤ} → mag y < 2 ^ 63 → mag z < 2 ^ 63 → ofZ w64 y ≡ ofZ w64 z → y ≡ z
+same-bits h k e = sym (read-back h) ∙ ap (toZ w64) e ∙ read-back k
+
+-- ---- equality
+
+pub eqZ-true : (x y : ℤ) → eqZ x y ≡ true → x ≡ y
 eqZ-true (pos a) (pos b) e = ap pos (eqb-true a b e)
 eqZ-true (pos a) (negsuc b) e = absurd (subst T (sym e) tt)
 eqZ-true (negsuc a) (pos b) e = absurd (subst T (sym e) tt)
 eqZ-true (negsuc a) (negsuc b) e = ap negsuc (eqb-true a b e)
 
--- a quotient is no further from 0 than what is divided
-rounded-le : (a d : ℕ) → 1 ≤ d → rounded a d ≤ a
-unfolding roundsUp
-rounded-le a d h = go′ (leb d (2 * (a % d))) refl
+eqZ-refl : (x : ℤ) → eqZ x x ≡ true
+eqZ-refl (pos a) = eq-eqb a a refl
+eqZ-refl (negsuc a) = eq-eqb a a refl
+
+pub eq-eqZ : (x y : ℤ) → x ≡ y → eqZ x y ≡ true
+eq-eqZ x y e = rw (← e) (eqZ-refl x)
+
+pub ne-eqZ : (x y : ℤ) → (x ≡ y → ⊥) → eqZ x y ≡ false
+ne-eqZ x y h = by (eqZ x y) refl
   where
-    go′ : (t : Bool) → leb d (2 * (a % d)) ≡ t → pickNat t (a / d + 1) (a / d) ≤ a
-    go′ true e = omega (arith, leb-true d (2 * (a % d)) e, div-add-mod' a d, mul-le-mul-left (a / d) h)
-    go′ false e = omega (arith, div-add-mod' a d, mul-le-mul-left (a / d) h)
+    by : (t : Bool) → eqZ x y ≡ t → eqZ x y ≡ false
+    by true e = absurd (h (eqZ-true x y e))
+    by false e = e
+
+-- ---- division
+
+-- all that the other laws know of the rule for rounding
+up-rest : (q r d : ℕ) → roundsUp q r d ≡ true → d ≤ 2 * r
+unfolding roundsUp
+up-rest q r d e = leb-true d (2 * r) e
+
+down-rest : (q r d : ℕ) → roundsUp q r d ≡ false → 2 * r < d
+unfolding roundsUp
+down-rest q r d e = leb-false d (2 * r) e
+
+at-most : (d p q : ℕ) → p * d < q * d + d → p ≤ q
+at-most d p q h = let l : p < suc q = lt-of-mul-lt-mul-right d (rw suc-mul h) in omega arith
+
+module _ (a d : ℕ) (h : 1 ≤ d) where
+  le-by : (t : Bool) → roundsUp (a / d) (a % d) d ≡ t → pickNat t (a / d + 1) (a / d) ≤ a
+  le-by true e =
+      omega (arith, up-rest (a / d) (a % d) d e, div-add-mod' a d, le-mul-of-pos-right (a / d) h)
+  le-by false e = omega (arith, div-add-mod' a d, le-mul-of-pos-right (a / d) h)
+
+  pub rounded-le : rounded a d ≤ a
+  rounded-le = le-by (roundsUp (a / d) (a % d) d) refl
+
+  nearest-by : (t : Bool) → roundsUp (a / d) (a % d) d ≡ t → (2 * (pickNat t (a / d + 1) (a / d) * d) ≤ 2 * a + d) × (2 * a + d < 2 * (pickNat t (a / d + 1) (a / d) * d) + 2 * d)
+  nearest-by true e =
+      let r : (a / d + 1) * d ≡ a / d * d + d = rw add-one (suc-mul (a / d) d) in
+      omega (arith, up-rest (a / d) (a % d) d e, div-add-mod' a d, mod-lt a h)
+  nearest-by false e = omega (arith, down-rest (a / d) (a % d) d e, div-add-mod' a d)
+
+  -- a magnitude's quotient is nearest, and a half goes up: it is the only q with 2qd ≤ 2a + d < 2qd + 2d
+  pub nearest-magnitude : (2 * (rounded a d * d) ≤ 2 * a + d) × (2 * a + d < 2 * (rounded a d * d) + 2 * d)
+  nearest-magnitude = nearest-by (roundsUp (a / d) (a % d) d) refl
+
+  pub nearest-magnitude-only : (q : ℕ) → 2 * (q * d) ≤ 2 * a + d → 2 * a + d < 2 * (q * d) + 2 * d → q ≡ rounded a d
+  nearest-magnitude-only q l u =
+      let n = nearest-magnitude in
+      le-antisymm (at-most d q (rounded a d) (omega arith)) (at-most d (rounded a d) q (omega arith))
+
+twice-natAbs : (z : ℤ) (n : ℕ) → 2 * posPart z ≤ n + 2 * negPart z → 2 * negPart z ≤ n + 2 * posPart z → 2 * natAbs z ≤ n
+unfolding posPart negPart
+twice-natAbs (pos a) n h l = omega arith
+twice-natAbs (negsuc a) n h l = omega arith
+
+neg-times-parts : (q d : ℕ) → (posPart (negℤ (pos q) *ℤ pos d) ≡ 0) × (negPart (negℤ (pos q) *ℤ pos d) ≡ q * d)
+unfolding posPart negPart
+neg-times-parts zero d = (zero-mul d, sym (zero-mul d))
+neg-times-parts (suc q) d = neg-parts (pos (suc q * d))
+
+-- the quotient is nearest: twice the distance from x to quotient x d times d is at most d
+pub nearest : (x : ℤ) (d : ℕ) → 1 ≤ d → 2 * natAbs (x -ℤ quotient x d *ℤ pos d) ≤ d
+unfolding quotient posPart negPart
+nearest (pos a) d h =
+    let t = pos (rounded a d * d) in
+    let p = difference-parts (pos a) t in
+    let n = nearest-magnitude a d h in
+    twice-natAbs (pos a -ℤ t) d (omega arith) (omega arith)
+nearest (negsuc a) d h =
+    let t = negℤ (pos (rounded (suc a) d)) *ℤ pos d in
+    let p = difference-parts (negsuc a) t in
+    let s = neg-times-parts (rounded (suc a) d) d in
+    let n = nearest-magnitude (suc a) d h in
+    twice-natAbs (negsuc a -ℤ t) d (omega arith) (omega arith)
 
 mag-neg : (q a : ℕ) → q ≤ suc a → mag (negℤ (pos q)) ≤ a
 mag-neg zero a h = omega arith
 mag-neg (suc q) a h = omega arith
 
-pub quotient-fits : (z : ℤ) (d : ℕ) → 1 ≤ d → fits z ≡ true → fits (quotient z d) ≡ true
-unfolding quotient fits
-quotient-fits (pos a) d h e = lt-ltb (rounded a d) (2 ^ 63) (omega (arith, rounded-le a d h, ltb-true a (2 ^ 63) e))
-quotient-fits (negsuc a) d h e = lt-ltb (mag (negℤ (pos (rounded (suc a) d)))) (2 ^ 63) (omega (arith, mag-neg (rounded (suc a) d) a (rounded-le (suc a) d h), ltb-true a (2 ^ 63) e))
+pub quotient-fits : (z : ℤ) (d : ℕ) → fits z ≡ true → 1 ≤ d → fits (quotient z d) ≡ true
+unfolding fits quotient
+quotient-fits (pos a) d e h =
+    lt-ltb (rounded a d) (2 ^ 63) (omega (arith, ltb-true a (2 ^ 63) e, rounded-le a d h))
+quotient-fits (negsuc a) d e h =
+    lt-ltb (mag (negℤ (pos (rounded (suc a) d)))) (2 ^ 63) (omega (arith, ltb-true a (2 ^ 63) e, mag-neg (rounded (suc a) d) a (rounded-le (suc a) d h)))

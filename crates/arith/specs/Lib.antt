@@ -1,2 +1,3 @@
+-- The definitions of `arith`, and their laws.
 pub mod Integer
 pub mod Laws

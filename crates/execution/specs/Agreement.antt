@@ -54,6 +54,14 @@ module _ (S : Table) where
     unfolding whole
     whole-agree b e = steps-agree b (length b) start e
 
+-- a run past its last operation has ended
+pub ended-past : (b : List Operation) (p : Run) → length b ≤ p .counter → ended b p ≡ true
+ended-past b p h = by (p .outcome)
+  where
+    by : (c : ℕ) → is-none (due-at b (p .counter) c) ≡ true
+    by zero = rw (drop-of-length-le b h)
+    by (suc c) = refl
+
 module _ (S : Table) (b : List Operation) where
   -- an ended run stays
   pub stay : (k : ℕ) (p : Run) → ended b p ≡ true → steps S b k p ≡ p
@@ -97,19 +105,22 @@ module _ (S : Table) (b : List Operation) where
       next (inl e) = inl (rw (stay 1 q e) e)
       next (inr h) = by (due b q) refl h
 
+  -- as many operations as the body has, or more, reach the end
+  enough-end : (k : ℕ) → length b ≤ k → ended b (steps S b k start) ≡ true
+  enough-end k h = by (moves-on k start)
+    where
+      by : (ended b (steps S b k start) ≡ true) ⊎ (k ≤ steps S b k start .counter) → ended b (steps S b k start) ≡ true
+      by (inl e) = e
+      by (inr l) = ended-past b (steps S b k start) (omega arith)
+
   pub whole-ends : ended b (whole S b) ≡ true
   unfolding whole
-  whole-ends = go′ (moves-on (length b) start)
-    where
-      past : (q : Run) (c : ℕ) → length b ≤ q .counter → is-none (due-at b (q .counter) c) ≡ true
-      past q zero h = rw (drop-of-length-le b h)
-      past q (suc c) h = refl
-
-      go′ : (ended b (whole S b) ≡ true) ⊎ (length b ≤ whole S b .counter) → ended b (whole S b) ≡ true
-      go′ (inl e) = e
-      go′ (inr h) = past (whole S b) (whole S b .outcome) h
+  whole-ends = enough-end (length b) (omega arith)
 
   -- an ended run is the whole run
   pub ended-whole : (k : ℕ) → ended b (steps S b k start) ≡ true → steps S b k start ≡ whole S b
   unfolding whole
   ended-whole k e = sym (stay (length b) (steps S b k start) e) ∙ steps-swap (length b) k start ∙ stay k (whole S b) whole-ends
+
+  pub enough : (k : ℕ) → length b ≤ k → steps S b k start ≡ whole S b
+  enough k h = ended-whole k (enough-end k h)

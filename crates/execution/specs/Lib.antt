@@ -2,3 +2,9 @@ pub mod Entries
 pub mod Run
 pub mod Agreement
 pub mod Shape
+pub mod Arrays
+pub mod Places
+pub mod Moves
+pub mod Budget
+pub mod Tables
+pub mod Examples

@@ -91,7 +91,7 @@ every-update q (x ∷ l) o v e h =
     go′ false f a i = rw (f, i)
 
 -- an object that does not stand yet comes last
-update-absent : (l : List Entry) (o : ℕ) (v : ℤ) → lookup l o ≡ none → update l o v ≡ append l o v
+pub update-absent : (l : List Entry) (o : ℕ) (v : ℤ) → lookup l o ≡ none → update l o v ≡ append l o v
 update-absent [] o v h = refl
 update-absent (x ∷ l) o v h = go′ (eqb (x .object) o) h (update-absent l o v)
   where
@@ -182,9 +182,9 @@ fine n left (Skip r k) g v c a = (go′ (ltZ (register g r) (pos 0)), c, a)
     go′ false = omega arith
 fine n left Fail g v c a = tt
 fine n left (Divide r d) g v c a =
-    (omega arith, length-set g r _ ∙ c, all-fit-set g r (quotient (register g r) d) (quotient-fits (register g r) d (v .1) (register-fits g r a)) a)
+    (omega arith, length-set g r _ ∙ c, all-fit-set g r (quotient (register g r) d) (quotient-fits (register g r) d (register-fits g r a) (v .1)) a)
 
-stop-least : (s : Stop) → outcomeOf s ≤ 2
+pub stop-least : (s : Stop) → outcomeOf s ≤ 2
 stop-least failed = omega arith
 stop-least overflowed = omega arith
 

@@ -1,2 +1,5 @@
 pub mod Body
 pub mod Laws
+pub mod Columns
+pub mod Encode
+pub mod Examples

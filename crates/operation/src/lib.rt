@@ -1,4 +1,11 @@
-// A decoded operation (document 01, "A job's body"): registers and objects by number, a constant only where the kind carries one.
+// A transaction's body (document 01, "A job's body"): its operations, decoded from bytes, and the check of its rules.
+ghost use mathlib.Core.Path.{_≡_};
+ghost use Prim.Native.Nat.{_+_, _*_, _≤_, _<_};
+ghost use lib.ListN.{length};
+ghost use Rattle.operation.specs.Body.{size, operationAt, allowedAt, each, decoded};
+ghost use Rattle.operation.specs.Columns.{mostOperations};
+
+// A decoded operation: registers and objects by number, a constant only where the kind carries one.
 pub enum Operation {
     Load(usize, usize),
     Store(usize, usize),
@@ -14,4 +21,91 @@ pub enum Operation {
 pub enum Decoded {
     WellFormed(usize),
     Malformed,
+}
+
+// A byte as a number.
+fn small(x: u8) -> usize
+    ensures { λ r. ⌜ (r ≡ x) × (r < 256) ⌝ }
+{
+    x as usize
+}
+
+// Whether each of the m operations keeps the rules of its kind: a column for each limit, built before the loop, and one branch on all of them.
+fn each_allowed(body: &[u8], m: usize, objects: usize) -> bool
+    requires { ⌜ (m ≡ size (now body)) × (m ≤ mostOperations) × (length (now body) ≡ 1 + 11 * m) ⌝ }
+    ensures { λ r. ⌜ r ≡ each (allowedAt objects (now (body .entry))) m ⌝ }
+{
+    let first_below = [4, 4, 4, 4, 4, 4, 1, 4];
+    let second_from = [0, 0, 0, 0, 0, 1, 0, 0];
+    let second_below = [objects, objects, 1, 4, 4, m, 1, 1];
+    let constant_from: [u64; 8] = [0, 0, 0, 0, 0, 0, 0, 1];
+    let constant_most: [u64; 8] = [0, 0, 0xffff_ffff_ffff_ffff, 0, 0, 0, 0, 1_000_000];
+    let mut i = 0;
+    while i < m {
+        let kind = small(body[1 + 3 * i]);
+        if 8 <= kind {
+            return false;
+        }
+        let first = small(body[2 + 3 * i]);
+        let second = small(body[3 + 3 * i]);
+        let constant = cells::load(body, 1 + 3 * m + 8 * i);
+        let from = second_from[kind];
+        let allowed = (first < first_below[kind])
+            & (from <= second)
+            & (second + from * i < second_below[kind])
+            & (constant_from[kind] <= constant)
+            & (constant <= constant_most[kind]);
+        if !allowed {
+            return false;
+        }
+        i += 1;
+    }
+    true
+}
+
+// A whole body, of any length and contents, for a replica of this many objects.
+pub fn decode(body: &[u8], most: usize, objects: usize) -> Decoded
+    requires { ⌜ most ≤ mostOperations ⌝ }
+    ensures { λ r. ⌜ r ≡ decoded most objects (now (body .entry)) ⌝ }
+{
+    if body.len() == 0 {
+        return Decoded::Malformed;
+    }
+    let m = small(body[0]);
+    if m < 1 {
+        return Decoded::Malformed;
+    }
+    if most < m {
+        return Decoded::Malformed;
+    }
+    if body.len() != 1 + 11 * m {
+        return Decoded::Malformed;
+    }
+    if each_allowed(body, m, objects) {
+        Decoded::WellFormed(m)
+    } else {
+        Decoded::Malformed
+    }
+}
+
+// Operation i of a body that was checked: no rule is tested again, and a constant is loaded only where the kind carries one.
+pub fn operation_at(body: &[u8], i: usize) -> Operation
+    requires { ⌜ (i < size (now body)) × (length (now body) ≡ 1 + 11 * size (now body)) ⌝ }
+    ensures { λ r. ⌜ r ≡ operationAt (now (body .entry)) i ⌝ }
+{
+    let m = small(body[0]);
+    let kind = small(body[1 + 3 * i]);
+    let first = small(body[2 + 3 * i]);
+    let second = small(body[3 + 3 * i]);
+    let at = 1 + 3 * m + 8 * i;
+    match kind {
+        0 => Operation::Load(first, second),
+        1 => Operation::Store(first, second),
+        2 => Operation::Set(first, cells::signed(cells::load(body, at))),
+        3 => Operation::Add(first, second),
+        4 => Operation::Subtract(first, second),
+        5 => Operation::Skip(first, second),
+        6 => Operation::Fail,
+        _ => Operation::Divide(first, cells::load(body, at)),
+    }
 }

@@ -1,0 +1,3 @@
+-- What the proofs of `arith` share.
+pub mod Sums
+pub mod Sides

@@ -1,0 +1,16 @@
+-- `arith::rounds_up` meets its contract, which is its own test. Assumes nothing.
+use borrow.Author.Needs.{needs}
+use mathlib.Core.Path.{refl}
+use Rattle.arith.specs.Integer.{roundsUp}
+use Rattle.arith.proofs.rounds_up.Statement.{statement}
+use Rattle.arith.proofs.rounds_up.Tie as tie
+
+mul-result : tie.Need-mul-result
+mul-result c = search needs
+
+returns : tie.Need-returns
+unfolding roundsUp
+returns c = refl
+
+pub rounds-up-spec : {M : Type 1} → statement M
+rounds-up-spec = tie.close (tie.spec mul-result returns)

@@ -1,0 +1,190 @@
+-- A replica and the serial table that it stands for: any one call on both gives the same to be seen, and a replica that stands for the same table.
+-- Assumes nothing.
+use mathlib.Core.Path.{_≡_, refl, sym, ap, _∙_}
+use mathlib.Core.Bool.{Bool, true, false, not, cond}
+use mathlib.Core.Option.{Option, none, some, Option·getD, Option·map}
+use mathlib.Core.List.{List, [], _∷_, map, map-append, map-map}
+use Prim.Native.Nat.{ℕ, zero, suc, _<_}
+use native.Mathlib.Omega.{arith}
+use lib.IntN.{ℤ}
+use lib.ListN.{length, getD, set, length-map, List·getD-map}
+use Rattle.operation.specs.Body.{listed, operations}
+use Rattle.operation.specs.Laws.{valid-drop}
+use Rattle.execution.specs.Run.{Run, start, steps}
+use Rattle.model.specs.declared.Limits.{Limits}
+use Rattle.model.specs.Lists.{pick, keep, count}
+use Rattle.model.specs.Calls.{Call, opening, optimistic, execute, final, open-reader, read, close-reader, find, show-body, Answer, committed, value, seen, Transaction, is-key, leaves, bytes-of, refusal, judged}
+use Rattle.model.specs.Serial as serial
+use Rattle.model.specs.Serial.{Version, no-version, Serial, is-some, stored-at, ran}
+use Rattle.model.specs.Replica.{Pending, Replica, newest, as-of, view, opens, prune, table, install, walk, program, pending-of, has-key, stays, result, facts, commit, opened, perform, call}
+use Rattle.model.specs.ListLaws.{All, all-at, all-implies, all-map, map-keep, index-map, map-replicate, map-set, map-all, map-map-same}
+use Rattle.model.specs.Versions.{Until, newest-prune, as-of-prune, as-of-now, newest-install, as-of-install, table-values, views}
+use Rattle.model.specs.EarlyResults.{Somewhere, chain-somewhere, sents, worked-sents, walk-sents, result-whole}
+use Rattle.model.specs.Simulation.{AllValid, none-valid, SameRun, serial-run}
+use Rattle.model.specs.Invariant.{Invariant, WellFormed}
+
+-- ---- the serial table that a replica stands for
+
+-- an open reader's copy of the objects
+abbrev copies : List (List Version) → List (Option ℕ) → List (Option (List Version))
+copies objs rs = map (Option·map (λ r. map (as-of r) objs)) rs
+
+unfoldable pub serial-of : Replica → Serial
+serial-of u =
+    record { timestamp = u .timestamp; objects = map newest (u .objects); lasts = u .lasts; pending = sents (u .pending); readers = copies (u .objects) (u .readers) }
+
+serial-≡ : (p q : Serial) → p .timestamp ≡ q .timestamp → p .objects ≡ q .objects → p .lasts ≡ q .lasts → p .pending ≡ q .pending → p .readers ≡ q .readers → p ≡ q
+serial-≡ p q a b c d e = λ i. record { timestamp = a i; objects = b i; lasts = c i; pending = d i; readers = e i }
+
+-- refusals see the same
+pub facts-same : (u : Replica) → serial.facts (serial-of u) ≡ facts u
+unfolding serial.facts serial-of facts
+facts-same u = rw (length-map (u .objects) newest, opens-same (u .readers))
+  where
+    opens-same : (l : List (Option ℕ)) → map is-some (copies (u .objects) l) ≡ map is-some l
+    opens-same [] = refl
+    opens-same (none ∷ l) = ap (false ∷_) (opens-same l)
+    opens-same (some a ∷ l) = ap (true ∷_) (opens-same l)
+
+-- both look up the same body
+picked-bytes : (q : Transaction → Bool) (l : List Pending) → bytes-of (pick q (sents l)) ≡ pending-of (pick (λ (j : Pending). q (j .sent)) l) .sent .bytes
+unfolding start
+picked-bytes q [] = refl
+picked-bytes q (j ∷ l) = go′ (q (j .sent)) (picked-bytes q l)
+  where
+    go′ : (b : Bool) → bytes-of (pick q (sents l)) ≡ pending-of (pick (λ (j : Pending). q (j .sent)) l) .sent .bytes → bytes-of (cond b (some (j .sent)) (pick q (sents l))) ≡ pending-of (cond b (some j) (pick (λ (j : Pending). q (j .sent)) l)) .sent .bytes
+    go′ true h = refl
+    go′ false h = h
+
+picked-all : (P : Pending → Type 0) (q : Pending → Bool) (l : List Pending) → P (pending-of none) → All P l → P (pending-of (pick q l))
+picked-all P q [] d h = d
+picked-all P q (j ∷ l) d h = go′ (q j) (picked-all P q l d (h .1))
+  where
+    go′ : (b : Bool) → P (pending-of (pick q l)) → P (pending-of (cond b (some j) (pick q l)))
+    go′ true k = h .0
+    go′ false k = k
+
+module _ (l : Limits) where
+  pub opened-same : (vs : List ℤ) (t : ℕ) → serial-of (opened l vs t) ≡ serial.opened l vs t
+  unfolding serial-of opened serial.opened
+  opened-same vs t =
+      serial-≡ _ _ refl (map-map newest (λ v. record { stamp = t; value = v } ∷ []) vs) refl refl (map-replicate _ (l .readers) none)
+
+  -- what one call answers, and the state after it
+  abbrev Agrees : Answer × Replica → Answer × Serial → Type 0
+  Agrees r q = (seen (r .0) ≡ q .0) × (serial-of (r .1) ≡ q .1)
+
+  module _ (u : Replica) (v : Invariant l u) where
+    -- ---- a final delivery
+
+    -- the transaction that is delivered
+    abbrev delivered : ℕ → ℕ → Pending
+    delivered c s = pending-of (pick (has-key c s) (u .pending))
+
+    delivered-somewhere : (c s : ℕ) → Somewhere (delivered c s)
+    unfolding steps
+    delivered-somewhere c s =
+        picked-all Somewhere (has-key c s) (u .pending) (table (u .objects), (0, refl)) (chain-somewhere (table (u .objects)) (u .pending) (v .early))
+
+    delivered-valid : (c s : ℕ) → AllValid (length (u .objects)) (program (delivered c s))
+    unfolding operations listed
+    delivered-valid c s =
+        picked-all (λ (j : Pending). AllValid (length (u .objects)) (program j)) (has-key c s) (u .pending) (none-valid (length (u .objects))) (all-implies _ _ (λ (j : Pending) h. valid-drop (l .operations) (length (u .objects)) (j .sent .bytes) h) (u .pending) (all-map (WellFormed l (length (u .objects))) (λ (j : Pending). j .sent) (u .pending) (v .bodies)))
+
+    before : (i : ℕ) → getD (map newest (u .objects)) i no-version .stamp < suc (u .timestamp)
+    before i =
+        rw (List·getD-map newest (u .objects) i [])
+        (let h = all-at (Until (u .timestamp)) (u .objects) [] (v .versions) (omega arith) i in omega arith)
+
+    -- validated or run again, its result is what the serial table's run gives
+    result-same : (c s : ℕ) → SameRun (suc (u .timestamp)) (map newest (u .objects)) (result (table (u .objects)) (delivered c s)) (ran (suc (u .timestamp)) (delivered c s .sent .bytes) (map newest (u .objects)))
+    result-same c s =
+        rw (result-whole (table (u .objects)) (delivered c s) (delivered-somewhere c s), ← (table-values (u .objects)))
+        (serial-run (suc (u .timestamp)) (map newest (u .objects)) before (delivered c s .sent .bytes) (rw (length-map (u .objects) newest) (delivered-valid c s)))
+
+    final-same : (c s : ℕ) → Agrees (perform l u (final c s)) (serial.perform l (serial-of u) (final c s))
+    unfolding perform commit serial-of serial.perform serial.commit
+    final-same c s = rw (picked-bytes (is-key c s) (u .pending)) (answer, serial-≡ _ _ refl objects refl pending readers)
+      where
+        t : ℕ
+        t = suc (u .timestamp)
+
+        rs : List ℕ
+        rs = opens (u .readers)
+
+        p : Run
+        p = result (table (u .objects)) (delivered c s)
+
+        r : ℕ × List Version
+        r = ran t (delivered c s .sent .bytes) (map newest (u .objects))
+
+        g : SameRun t (map newest (u .objects)) p r
+        g = result-same c s
+
+        objs : List (List Version)
+        objs = install t rs (p .writes) (u .objects)
+
+        left : List Pending
+        left = keep (stays c s) (u .pending)
+
+        answer : committed (p .outcome) false t (length (p .writes)) ≡ committed (r .0) false t (count (stored-at t) (r .1))
+        answer = rw (g .stored, g .outcome)
+
+        objects : map newest objs ≡ r .1
+        objects = newest-install t rs (p .writes) (u .objects) ∙ sym (g .objects)
+
+        pending : sents (walk (table objs) left) ≡ keep (λ j. not (leaves c s j)) (sents (u .pending))
+        pending = walk-sents (table objs) left ∙ map-keep (λ (j : Pending). j .sent) (λ j. not (leaves c s j)) (u .pending)
+
+        readers : copies objs (u .readers) ≡ copies (u .objects) (u .readers)
+        readers =
+            views (λ r. map (as-of r) objs) (λ r. map (as-of r) (u .objects)) (u .readers) (λ r h. as-of-install t rs (p .writes) (u .objects) r h (let k = v .readers r h in omega arith))
+
+    -- ---- readers
+
+    open-reader-same : (r : ℕ) → copies (u .objects) (set (u .readers) r (some (u .timestamp))) ≡ set (copies (u .objects) (u .readers)) r (some (map newest (u .objects)))
+    open-reader-same r =
+        map-set (Option·map (λ r. map (as-of r) (u .objects))) (u .readers) r (some (u .timestamp))
+        ∙ rw (map-all (as-of (u .timestamp)) newest (u .objects) (all-implies _ _ (as-of-now (u .timestamp)) (u .objects) (v .versions)))
+
+    read-same : (r o : ℕ) → Agrees (perform l u (read r o)) (serial.perform l (serial-of u) (read r o))
+    unfolding perform serial-of serial.perform
+    read-same r o =
+        (ap value (rw (List·getD-map (Option·map (λ r. map (as-of r) (u .objects))) (u .readers) r none) (go′ (getD (u .readers) r none))), refl)
+      where
+        go′ : (k : Option ℕ) → view k (getD (u .objects) o []) .value ≡ getD (Option·getD (Option·map (λ r. map (as-of r) (u .objects)) k) []) o no-version .value
+        go′ none = refl
+        go′ (some r) = ap (λ (x : Version). x .value) (sym (List·getD-map (as-of r) (u .objects) o []))
+
+    close-reader-same : (r : ℕ) → let rs = set (u .readers) r none in copies (map (prune (opens rs)) (u .objects)) rs ≡ set (copies (u .objects) (u .readers)) r none
+    close-reader-same r =
+        let rs = set (u .readers) r none in
+        views (λ r. map (as-of r) (map (prune (opens rs)) (u .objects))) (λ r. map (as-of r) (u .objects)) rs (λ r h. map-map-same (as-of r) (prune (opens rs)) (u .objects) (λ vs. as-of-prune (opens rs) vs r h))
+        ∙ map-set (Option·map (λ r. map (as-of r) (u .objects))) (u .readers) r none
+
+    -- ---- every call
+
+    perform-same : (c : Call) → Agrees (perform l u c) (serial.perform l (serial-of u) c)
+    unfolding perform serial-of serial.perform
+    perform-same (opening n vs t) = (refl, opened-same vs t)
+    perform-same (optimistic c s b) =
+        (refl, serial-≡ _ _ refl refl refl (map-append (λ (j : Pending). j .sent) (u .pending) _) refl)
+    perform-same (execute k) = (refl, serial-≡ _ _ refl refl refl (worked-sents (table (u .objects)) k (u .pending)) refl)
+    perform-same (final c s) = final-same c s
+    perform-same (open-reader r) = (refl, serial-≡ _ _ refl refl refl refl (open-reader-same r))
+    perform-same (read r o) = read-same r o
+    perform-same (close-reader r) =
+        let rs = opens (set (u .readers) r none) in
+        (refl, serial-≡ _ _ refl (map-map-same newest (prune rs) (u .objects) (newest-prune rs)) refl refl (close-reader-same r))
+    perform-same (find c s) =
+        (rw (index-map (λ (j : Pending). j .sent) (is-key c s) (u .pending), picked-bytes (is-key c s) (u .pending)), refl)
+    perform-same (show-body c s) = (rw (facts-same u, picked-bytes (is-key c s) (u .pending)), refl)
+
+    -- one call
+    pub call-same : (c : Call) → Agrees (call l u c) (serial.call l (serial-of u) c)
+    unfolding call serial.call
+    call-same c = rw (facts-same u) (go′ (refusal l (facts u) c))
+      where
+        go′ : (k : ℕ) → Agrees (judged u (perform l u c) k) (judged (serial-of u) (serial.perform l (serial-of u) c) k)
+        go′ zero = perform-same c
+        go′ (suc k) = (refl, refl)

@@ -1,0 +1,307 @@
+-- Every call keeps the shape, from any replica that has it, forged early results included; an accepted opening gives it. Assumes nothing.
+use mathlib.Core.Path.{_≡_, refl, _∙_}
+use mathlib.Core.Logic.{_⊎_, inl, inr}
+use mathlib.Core.Bool.{true, false, not, _||_, false≢true, true≢false}
+use mathlib.Core.Option.{none, some}
+use mathlib.Core.List.{List, [], _∷_, _++_, map, map-append}
+use Prim.Native.Nat.{ℕ, zero, suc, _^_, _≤_, _<_}
+use native.Mathlib.Omega.{arith}
+use lib.IntN.{ℤ}
+use lib.Dec.{eqb, ltb}
+use lib.ListN.{length, set, replicate, length-map, length-set, length-append, length-replicate}
+use borrow.Author.Tests.{eq-eqb, eqb-true, leb-false, le-leb, lt-ltb, ltb-false, not-false}
+use Rattle.arith.specs.Integer.{fits}
+use Rattle.operation.specs.Body.{size, operations, wellFormed}
+use Rattle.execution.specs.Entries.{Entry}
+use Rattle.execution.specs.Run.{Table, start}
+use Rattle.execution.specs.Agreement.{both}
+use Rattle.execution.specs.Shape.{Entries, Shaped, start-shaped}
+use Rattle.model.specs.declared.Limits.{Limits}
+use Rattle.model.specs.Lists.{pick, keep, any, all}
+use Rattle.model.specs.Calls.{Call, opening, optimistic, execute, final, open-reader, read, close-reader, find, show-body, Transaction, Facts, is-key, leaves, causes, refusal, judged, clients, lastTimestamp}
+use Rattle.model.specs.Serial.{Version}
+use Rattle.model.specs.Replica.{Pending, Replica, opens, held, prune, install, table, program, worked, walk, pending-of, has-key, stays, result, facts, commit, opened, perform, call, calls}
+use Rattle.model.specs.ListLaws.{All, all-mapped, all-keep, all-append, all-map, all-implies, map-keep}
+use Rattle.model.specs.Versions.{length-install}
+use Rattle.model.specs.EarlyResults.{ordered-keep, ordered-append, walk-ordered, worked-ordered, sents, worked-sents, walk-sents}
+use Rattle.model.specs.Refusals.{accepted}
+use Rattle.model.specs.Tests.{neither}
+use Rattle.model.specs.Shape.{VersionsShape, Shape}
+use Rattle.model.specs.ShapeCheck.{shaped, shaped-says}
+use Rattle.model.specs.ShapeParts.{Fit, Formed, Key, AllFormed, Objects, Queue, objects-part, pending-part, together, all-keep-with, all-both, length-keep, all-set, same-length, distinct-keep, distinct-append, still-unspent, pending-sequence, table-fits, prune-fits, install-fits, install-versions, worked-shaped, walk-shaped, result-shaped, pick-found, opens-kept, opened-who, closed-who}
+use Rattle.model.specs.Held.{close-shape, open-shape}
+
+-- what the types of the code's arguments give: values of 64 bits, timestamps and sequence numbers of 32
+abbrev pub Typed : Call → Type 0
+Typed (opening n vs t) = (all fits vs ≡ true) × (t ≤ lastTimestamp)
+Typed (optimistic c s b) = s < 2 ^ 32
+Typed (execute k) = Unit {0}
+Typed (final c s) = Unit {0}
+Typed (open-reader r) = Unit {0}
+Typed (read r o) = Unit {0}
+Typed (close-reader r) = Unit {0}
+Typed (find c s) = Unit {0}
+Typed (show-body c s) = Unit {0}
+
+-- ---- an opening
+
+nobody : (k : ℕ) → opens (replicate k none) ≡ []
+nobody zero = refl
+nobody (suc k) = nobody k
+
+all-zero : (k : ℕ) → all (λ s. ltb s (2 ^ 32)) (replicate k 0) ≡ true
+all-zero zero = refl
+all-zero (suc k) = all-zero k
+
+module _ (l : Limits) where
+  opened-shape : (vs : List ℤ) (t : ℕ) → all fits vs ≡ true → t ≤ lastTimestamp → 0 < length vs → length vs ≤ l .objects → Shape l (opened l vs t)
+  unfolding opened held
+  opened-shape vs t f h least most =
+      together l (opened l vs t)
+      (record {
+        some-object = rw (length-map {B = List Version} vs (λ v. record { stamp = t; value = v } ∷ [])) least;
+        few-objects = rw (length-map {B = List Version} vs (λ v. record { stamp = t; value = v } ∷ [])) most;
+        timestamp = h;
+        versions = rw (nobody (l .readers)) (first vs);
+        values = fit vs f;
+        before = rw (nobody (l .readers)) (λ r e. absurd (false≢true e));
+        reader-count = length-replicate (l .readers) none;
+      })
+      (record { few-pending = omega arith; small = all-zero clients; last-count = length-replicate clients 0; distinct = refl; keys = tt; ordered = tt; runs = tt })
+    where
+      first : (vs : List ℤ) → All (VersionsShape t []) (map (λ v. record { stamp = t; value = v } ∷ []) vs)
+      first [] = tt
+      first (v ∷ vs) =
+          (record { least = omega arith; order = refl; bound = rw (le-leb t t (omega arith)); each = rw (eq-eqb t t refl); served = λ r e. absurd (false≢true e) }, first vs)
+
+      fit : (vs : List ℤ) → all fits vs ≡ true → All Fit (map (λ v. record { stamp = t; value = v } ∷ []) vs)
+      fit [] e = tt
+      fit (v ∷ vs) e = let k = both (fits v) (all fits vs) e in (rw (k .0), fit vs (k .1))
+
+  -- an accepted opening gives the shape, whatever was there before
+  pub opening-shape : (f : Facts) (n : ℕ) (vs : List ℤ) (t : ℕ) → Typed (opening n vs t) → refusal l f (opening n vs t) ≡ 0 → Shape l (opened l vs t)
+  unfolding causes
+  opening-shape f n vs t a e =
+      let k = neither (eqb n 0 || ltb (l .objects) n) (not (eqb (length vs) n)) (accepted l f (opening n vs t) e .0) in
+      let h = neither (eqb n 0) (ltb (l .objects) n) (k .0) in
+      let q = eqb-true (length vs) n (not-false (eqb (length vs) n) (k .1)) in
+      let m = ltb-false (l .objects) n (h .1) in
+      opened-shape vs t (a .0) (a .1) (least n (h .0) q) (omega arith)
+    where
+      least : (n : ℕ) → eqb n 0 ≡ false → length vs ≡ n → 0 < length vs
+      least zero e q = absurd (true≢false e)
+      least (suc n) e q = omega arith
+
+  -- ---- the other calls
+
+  module _ (u : Replica) (k : Shape l u) where
+    abbrev n : ℕ
+    n = length (u .objects)
+
+    abbrev S : Table
+    S = table (u .objects)
+
+    o : Objects l u
+    o = objects-part l u k
+
+    q : Queue l u
+    q = pending-part l u k
+
+    fit : (x : ℕ) → fits (S .look x) ≡ true
+    fit = table-fits (u .objects) (k .encoded .values)
+
+    bodies : AllFormed l n (u .pending)
+    bodies = all-map (Formed l n) (λ (j : Pending). j .sent) (u .pending) (k .bodies)
+
+    optimistic-shape : (c s : ℕ) (b : List ℕ) → s < 2 ^ 32 → refusal l (facts u) (optimistic c s b) ≡ 0 → Shape l (perform l u (optimistic c s b) .1)
+    unfolding perform facts causes
+    optimistic-shape c s b hs e =
+        together l _ o
+        (record {
+          few-pending = (let m = leb-false (l .pending) (length (sents (u .pending))) (a .1 .1 .1 .1 .0) in omega (arith, length-map (u .pending) (λ (j : Pending). j .sent), length-append (u .pending) (j ∷ [])));
+          small = q .small;
+          last-count = q .last-count;
+          distinct = rw here (distinct-append (sents (u .pending)) (j .sent) (q .distinct) (a .1 .1 .0));
+          keys = rw here (all-append (Key l n (u .lasts)) (sents (u .pending)) (j .sent) (q .keys) new);
+          ordered = ordered-append (u .pending) j (q .ordered) refl;
+          runs = all-append _ (u .pending) j (q .runs) (start-shaped n (program j));
+        })
+      where
+        j : Pending
+        j = record { sent = record { client = c; sequence = s; bytes = b }; run = start }
+
+        a : All (λ x. x .0 ≡ false) (causes l (facts u) (optimistic c s b))
+        a = accepted l (facts u) (optimistic c s b) e
+
+        new : Key l n (u .lasts) (j .sent)
+        new = record { unspent = record { client = leb-false clients c (a .0); above = a .1 .0 }; sequence = hs; body = not-false (wellFormed (l .operations) n b) (a .1 .1 .1 .0) }
+
+        here : sents (u .pending ++ (j ∷ [])) ≡ sents (u .pending) ++ (j .sent ∷ [])
+        here = map-append (λ (j : Pending). j .sent) (u .pending) (j ∷ [])
+
+    execute-shape : (c : ℕ) → Shape l (perform l u (execute c) .1)
+    unfolding perform
+    execute-shape c =
+        together l _ o
+        (record {
+          few-pending = (let h = k .few-pending in omega (arith, same-length (worked S c (u .pending)) (u .pending) here));
+          small = q .small;
+          last-count = q .last-count;
+          distinct = rw here (q .distinct);
+          keys = rw here (q .keys);
+          ordered = worked-ordered S c (u .pending) (q .ordered);
+          runs = worked-shaped l n S c (u .pending) fit bodies (q .runs);
+        })
+      where
+        here : sents (worked S c (u .pending)) ≡ sents (u .pending)
+        here = worked-sents S c (u .pending)
+
+    final-shape : (c s : ℕ) → refusal l (facts u) (final c s) ≡ 0 → Shape l (perform l u (final c s) .1)
+    unfolding perform commit facts causes
+    final-shape c s e =
+        together l _
+        (record {
+          some-object = rw size (o .some-object);
+          few-objects = rw size (o .few-objects);
+          timestamp = leb-false lastTimestamp (u .timestamp) (a .1 .1 .1 .0);
+          versions = install-versions (u .timestamp) rs writes (u .objects) (o .versions);
+          values = install-fits n t rs writes entries (u .objects) (o .values);
+          before = λ r h. (let m = o .before r h in omega arith);
+          reader-count = o .reader-count;
+        })
+        (record {
+          few-pending = (let h = q .few-pending in omega (arith, same-length (walk (table objs) left) left (walk-sents (table objs) left), length-keep (stays c s) (u .pending)));
+          small = all-set (λ x. ltb x (2 ^ 32)) (u .lasts) c s (lt-ltb s (2 ^ 32) (pending-sequence l n (u .lasts) c s (sents (u .pending)) (q .keys) key)) (q .small);
+          last-count = length-set (u .lasts) c s ∙ q .last-count;
+          distinct = rw here (distinct-keep (λ x. not (leaves c s x)) (sents (u .pending)) (q .distinct));
+          keys = rw (here, size) (all-keep-with (Key l n (u .lasts)) (Key l n (set (u .lasts) c s)) (λ x. not (leaves c s x)) (sents (u .pending)) still (q .keys));
+          ordered = walk-ordered (table objs) left (ordered-keep (stays c s) (u .pending) (q .ordered));
+          runs = rw size (walk-shaped l n (table objs) left (all-keep _ (stays c s) (u .pending) (q .runs)));
+        })
+      where
+        a : All (λ x. x .0 ≡ false) (causes l (facts u) (final c s))
+        a = accepted l (facts u) (final c s) e
+
+        key : any (is-key c s) (sents (u .pending)) ≡ true
+        key = not-false (any (is-key c s) (sents (u .pending))) (a .1 .1 .0)
+
+        t : ℕ
+        t = suc (u .timestamp)
+
+        rs : List ℕ
+        rs = opens (u .readers)
+
+        j : Pending
+        j = pending-of (pick (has-key c s) (u .pending))
+
+        writes : List Entry
+        writes = result S j .writes
+
+        entries : Entries n writes
+        entries =
+            pick-found (λ (j : Pending). Entries n (result S j .writes)) c s (u .pending) (all-both (λ (j : Pending). Formed l n (j .sent)) (λ (j : Pending). Shaped n (program j) (j .run)) _ (u .pending) (λ j w v. result-shaped l n S fit j w v .writes) bodies (q .runs)) key
+
+        objs : List (List Version)
+        objs = install t rs writes (u .objects)
+
+        size : length objs ≡ n
+        size = length-install t rs writes (u .objects)
+
+        left : List Pending
+        left = keep (stays c s) (u .pending)
+
+        here : sents (walk (table objs) left) ≡ keep (λ x. not (leaves c s x)) (sents (u .pending))
+        here = walk-sents (table objs) left ∙ map-keep (λ (j : Pending). j .sent) (λ x. not (leaves c s x)) (u .pending)
+
+        still : (x : Transaction) → not (leaves c s x) ≡ true → Key l n (u .lasts) x → Key l n (set (u .lasts) c s) x
+        still x g h =
+            record { unspent = still-unspent (u .lasts) c s x (let m = leb-false clients c (a .0) in let p = q .last-count in omega arith) g (h .unspent); sequence = h .sequence; body = h .body }
+
+    open-reader-shape : (r : ℕ) → refusal l (facts u) (open-reader r) ≡ 0 → Shape l (perform l u (open-reader r) .1)
+    unfolding perform facts causes
+    open-reader-shape r e =
+        together l _
+        (record {
+          some-object = o .some-object;
+          few-objects = o .few-objects;
+          timestamp = o .timestamp;
+          versions = all-implies (VersionsShape t rs) (VersionsShape t ts) (λ vs. open-shape t rs ts vs (opens-kept (u .readers) r t (accepted l (facts u) (open-reader r) e .1 .0)) (opened-who (u .readers) r t)) (u .objects) (o .versions);
+          values = o .values;
+          before = λ x h. sooner x (opened-who (u .readers) r t x h);
+          reader-count = length-set (u .readers) r _ ∙ o .reader-count;
+        })
+        q
+      where
+        t : ℕ
+        t = u .timestamp
+
+        rs : List ℕ
+        rs = opens (u .readers)
+
+        ts : List ℕ
+        ts = opens (set (u .readers) r (some t))
+
+        sooner : (x : ℕ) → (t ≡ x) ⊎ (any (eqb x) rs ≡ true) → x ≤ t
+        sooner x (inl p) = omega arith
+        sooner x (inr h) = o .before x h
+
+    close-reader-shape : (r : ℕ) → Shape l (perform l u (close-reader r) .1)
+    unfolding perform
+    close-reader-shape r =
+        together l _
+        (record {
+          some-object = rw size (o .some-object);
+          few-objects = rw size (o .few-objects);
+          timestamp = o .timestamp;
+          versions = all-mapped (VersionsShape (u .timestamp) ts) (prune ts) (u .objects) (all-implies (VersionsShape (u .timestamp) rs) _ (λ vs. close-shape (u .timestamp) rs ts vs (closed-who (u .readers) r)) (u .objects) (o .versions));
+          values = all-mapped Fit (prune ts) (u .objects) (all-implies Fit _ (prune-fits ts) (u .objects) (o .values));
+          before = λ x h. o .before x (closed-who (u .readers) r x h);
+          reader-count = length-set (u .readers) r none ∙ o .reader-count;
+        })
+        (rw size q)
+      where
+        rs : List ℕ
+        rs = opens (u .readers)
+
+        ts : List ℕ
+        ts = opens (set (u .readers) r none)
+
+        size : length (map (prune ts) (u .objects)) ≡ n
+        size = length-map (u .objects) (prune ts)
+
+    perform-shape : (c : Call) → Typed c → refusal l (facts u) c ≡ 0 → Shape l (perform l u c .1)
+    unfolding perform
+    perform-shape (opening n vs t) a e = opening-shape (facts u) n vs t a e
+    perform-shape (optimistic c s b) a e = optimistic-shape c s b a e
+    perform-shape (execute c) a e = execute-shape c
+    perform-shape (final c s) a e = final-shape c s e
+    perform-shape (open-reader r) a e = open-reader-shape r e
+    perform-shape (read r x) a e = k
+    perform-shape (close-reader r) a e = close-reader-shape r
+    perform-shape (find c s) a e = k
+    perform-shape (show-body c s) a e = k
+
+    pub call-shape : (c : Call) → Typed c → Shape l (call l u c .1)
+    unfolding call
+    call-shape c a = go′ (refusal l (facts u) c) refl
+      where
+        go′ : (x : ℕ) → refusal l (facts u) c ≡ x → Shape l (judged u (perform l u c) x .1)
+        go′ zero e = perform-shape c a e
+        go′ (suc x) e = k
+
+  -- any list of calls
+  pub calls-shape : (cs : List Call) (u : Replica) → Shape l u → All Typed cs → Shape l (calls l u cs .1)
+  unfolding calls
+  calls-shape [] u k a = k
+  calls-shape (c ∷ cs) u k a = calls-shape cs (call l u c .1) (call-shape u k c (a .0)) (a .1)
+
+  -- the same of the test
+  pub call-shaped : (u : Replica) (c : Call) → Typed c → shaped l u ≡ true → shaped l (call l u c .1) ≡ true
+  call-shaped u c a e = shaped-says l (call l u c .1) .1 (call-shape u (shaped-says l u .0 e) c a)
+
+  pub opening-shaped : (f : Facts) (n : ℕ) (vs : List ℤ) (t : ℕ) → Typed (opening n vs t) → refusal l f (opening n vs t) ≡ 0 → shaped l (opened l vs t) ≡ true
+  opening-shaped f n vs t a e = shaped-says l (opened l vs t) .1 (opening-shape f n vs t a e)
+
+  -- "Seven readers .. and eight versions an object therefore always suffice"
+  pub versions-suffice : (f : Facts) (n : ℕ) (vs : List ℤ) (t : ℕ) → Typed (opening n vs t) → refusal l f (opening n vs t) ≡ 0 → (cs : List Call) → All Typed cs → All (λ (xs : List Version). length xs ≤ suc (l .readers)) (calls l (opened l vs t) cs .1 .objects)
+  versions-suffice f n vs t a e cs b = calls-shape cs (opened l vs t) (opening-shape f n vs t a e) b .few-versions
