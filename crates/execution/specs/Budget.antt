@@ -1,14 +1,14 @@
 -- The budgeted run, as the loop of `execute` goes: what holds before and after each operation. Assumes nothing.
 use Prim.Native.Nat.{ℕ, zero, suc, _+_, _-_, _≤_, _<_}
 use mathlib.Core.Path.{_≡_, refl, sym, ap, _∙_}
-use mathlib.Core.Bool.{true, false}
+use mathlib.Core.Bool.{true}
 use mathlib.Core.Option.{some}
 use mathlib.Core.List.{List}
 use native.Mathlib.Omega.{arith}
 use native.Mathlib.Nat.{sub-zero, zero-add}
 use lib.IntN.{ℤ}
 use lib.ListN.{length}
-use Rattle.operation.specs.Body.{registerCount, size, operationAt, operations}
+use Rattle.operation.specs.Body.{size, operationAt, operations}
 use Rattle.operation.specs.Laws.{Valid, length-operations, head-operations}
 use Rattle.operation.specs.declared.Operation.{Operation}
 use Rattle.operation.specs.declared.Operation.the-variants.{Load, Store, Set, Add, Subtract, Skip, Fail, Divide}

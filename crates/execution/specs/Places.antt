@@ -1,20 +1,18 @@
 -- Reading, changing and adding an entry of a set in two arrays. Assumes nothing.
-use Prim.Native.Nat.{ℕ, zero, suc, _+_, _≤_, _<_}
-use mathlib.Core.Path.{_≡_, refl, sym, ap, _∙_}
-use mathlib.Core.Bool.{true, false}
+use Prim.Native.Nat.{ℕ, zero, suc, _≤_, _<_}
+use mathlib.Core.Path.{_≡_, refl, ap, _∙_}
 use mathlib.Core.Option.{none, some}
-use mathlib.Core.List.{List, [], _∷_}
+use mathlib.Core.List.{List, _∷_}
 use native.Mathlib.Omega.{arith}
 use lib.IntN.{ℤ, pos}
-use lib.ListN.{length, getD, set, length-set}
+use lib.ListN.{getD, set, length-set}
 use lib.Seq.{getD-set-same, getD-set-other}
 use borrow.Author.Tests.{eq-eqb, ne-eqb}
 use Rattle.operation.specs.Body.{listed}
 use Rattle.execution.specs.Entries.{Entry, entry, lookup, update, append}
-use Rattle.execution.specs.Shape.{update-absent}
 use Rattle.execution.specs.Arrays.{capacity, entryAt, entries, Room, Found}
 
-none-below : {A : Type 0} {k : ℕ} → k < 0 → A
+pub none-below : {A : Type 0} {k : ℕ} → k < 0 → A
 none-below {A} {k} h = absurd (omega arith)
 
 -- ---- entries given by a function

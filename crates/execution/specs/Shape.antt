@@ -2,15 +2,15 @@
 -- different objects below n and together no more than the counter, values of 64 bits, no writes after an early stop. Assumes nothing.
 use mathlib.Core.Path.{_≡_, refl, sym, ap, _∙_}
 use mathlib.Core.Logic.{_⊎_, inl, inr, _≢_}
-use mathlib.Core.Bool.{Bool, true, false, not, cond, _&&_, false≢true, true≢false}
+use mathlib.Core.Bool.{Bool, true, false, not, cond, _&&_, true≢false}
 use mathlib.Core.Option.{Option, none, some, Option·getD, Option·none-ne-some, Option·some-injective}
-use mathlib.Core.List.{List, [], _∷_, _++_, head?}
+use mathlib.Core.List.{List, [], _∷_}
 use Prim.Native.Nat.{ℕ, zero, suc, _+_, _≤_, _<_}
 use native.Mathlib.Omega.{arith}
 use lib.IntN.{ℤ, pos, _+ℤ_, _-ℤ_}
 use lib.Signed.{ltZ}
 use lib.Dec.{eqb, ltb}
-use lib.ListN.{length, getD, set, drop, replicate, length-set, length-drop, length-replicate}
+use lib.ListN.{length, set, drop, replicate, length-set, length-drop, length-replicate}
 use borrow.Author.Tests.{eq-eqb, ne-eqb, eqb-true, eqb-false, lt-ltb}
 use Rattle.arith.specs.Integer.{fits, quotient}
 use Rattle.arith.specs.Laws.{quotient-fits}
@@ -19,7 +19,7 @@ use Rattle.operation.specs.Laws.{Valid}
 use Rattle.operation.specs.declared.Operation.{Operation}
 use Rattle.operation.specs.declared.Operation.the-variants.{Load, Store, Set, Add, Subtract, Skip, Fail, Divide}
 use Rattle.execution.specs.Entries.{Entry, entry, lookup, update, append}
-use Rattle.execution.specs.Run.{Table, Stop, failed, overflowed, outcomeOf, Move, get, put, go, halt, register, sum, move, Run, start, or-else, known, recorded, got, apply, due, due-at, is-none, ended, obey, step, steps, over}
+use Rattle.execution.specs.Run.{Table, Stop, failed, overflowed, outcomeOf, Move, get, put, go, halt, register, sum, move, Run, start, or-else, recorded, apply, due, ended, obey, step, steps, over}
 use Rattle.execution.specs.Agreement.{both}
 
 abbrev pub is-some : {A : Type 0} → Option A → Bool

@@ -1,7 +1,7 @@
 -- A table beside a set in two arrays: agreement with a read set, and a write set laid over it from its last entry on. Assumes nothing.
 use Prim.Native.Nat.{ℕ, zero, suc, _≤_, _<_}
 use mathlib.Core.Path.{_≡_, refl, sym, ap, _∙_, fun-ext}
-use mathlib.Core.Bool.{Bool, true, false, cond, _&&_, and-false}
+use mathlib.Core.Bool.{Bool, true, false, cond, and-false}
 use mathlib.Core.Option.{some, Option·getD}
 use mathlib.Core.List.{List, [], _∷_}
 use native.Mathlib.Omega.{arith}
@@ -18,9 +18,7 @@ use Rattle.execution.specs.Run.{Table, tableOf, matches, over}
 use Rattle.execution.specs.Agreement.{both}
 use Rattle.execution.specs.Shape.{sound, every}
 use Rattle.execution.specs.Arrays.{entryAt, entries}
-
-none-below : {A : Type 0} {k : ℕ} → k < 0 → A
-none-below {A} {k} h = absurd (omega arith)
+use Rattle.execution.specs.Places.{none-below}
 
 -- ---- agreement
 

@@ -33,17 +33,19 @@ element-copy-out-value-in c = omega arith
 value-in-requires : tie.Need-value-in-requires Inv-loop μ-loop
 value-in-requires c κs = tt
 
-value-at-requires : tie.Need-value-at-requires Inv-loop μ-loop
-value-at-requires c κs = omega arith
+mul-read : tie.Need-mul-read Inv-loop μ-loop
+mul-read c = omega arith
+
+element-copy-out-read : tie.Need-element-copy-out-read Inv-loop μ-loop
+element-copy-out-read c = omega arith
 
 returns : tie.Need-returns Inv-loop μ-loop
 returns c =
     let l = c .before .before .before .before .before in
     let a = l .before .args in
     let v = c .before .before .value-in in
-    let w = c .before .value-at in
     sym
-    (matches-not (tableOf (now (a .table))) (now (a .ro)) (now (a .rv)) (a .count) (l .loop .k) (omega arith) (λ e. c .if1 .taken (ap (ofZ w64) (v .ensures ∙ e ∙ sym (w .ensures)))))
+    (matches-not (tableOf (now (a .table))) (now (a .ro)) (now (a .rv)) (a .count) (l .loop .k) (omega arith) (λ e. c .if1 .taken (ap (ofZ w64) (v .ensures ∙ e))))
 
 add-k : tie.Need-add-k Inv-loop μ-loop
 add-k c = omega arith
@@ -55,8 +57,7 @@ loop-again : tie.Need-loop-again Inv-loop μ-loop
 loop-again c =
     let l = c .before .before .before .before .before in
     let v = c .before .before .value-in in
-    let w = c .before .value-at in
-    (omega arith, below-more _ _ (l .loop .inv .1) (sym (v .ensures) ∙ same-bits (v .ok) (w .ok) (c .if1 .left) ∙ w .ensures))
+    (omega arith, below-more _ _ (l .loop .inv .1) (sym (v .ensures) ∙ same-bits (v .ok) (c .before .read .given) (c .if1 .left)))
 
 returns-2 : tie.Need-returns-2 Inv-loop μ-loop
 returns-2 c =
@@ -75,7 +76,8 @@ matches-spec =
     mul-value-in
     element-copy-out-value-in
     value-in-requires
-    value-at-requires
+    mul-read
+    element-copy-out-read
     returns
     add-k
     loop-less

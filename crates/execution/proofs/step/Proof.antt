@@ -6,7 +6,7 @@ use denote.Ref.{now}
 use borrow.Author.Needs.{needs}
 use Rattle.arith.specs.Laws.{read-back}
 use Rattle.operation.specs.Body.{registerCount, mostDivisor}
-use Rattle.execution.specs.Run.{tableOf, failed, move}
+use Rattle.execution.specs.Run.{tableOf, failed, register, move}
 use Rattle.execution.specs.Arrays.{capacity}
 use Rattle.execution.specs.Moves.{kept-advanced, kept-stopped, settled-sum, went, halted}
 use Rattle.execution.proofs.step.Statement.{statement}
@@ -74,13 +74,13 @@ mul-add : tie.Need-mul-add
 mul-add c = let l = add-limits (c .before) in omega arith
 
 element-copy-out-add : tie.Need-element-copy-out-add
-element-copy-out-add c = add-limits (c .before) .0
+element-copy-out-add c = let l = add-limits (c .before) in omega arith
 
 mul-add-2 : tie.Need-mul-add-2
 mul-add-2 c = let l = add-limits (c .before .before) in omega arith
 
 element-copy-out-add-2 : tie.Need-element-copy-out-add-2
-element-copy-out-add-2 c = add-limits (c .before .before) .1
+element-copy-out-add-2 c = let l = add-limits (c .before .before) in omega arith
 
 add-requires : tie.Need-add-requires
 add-requires c κs = search needs
@@ -95,13 +95,13 @@ mul-subtract : tie.Need-mul-subtract
 mul-subtract c = let l = subtract-limits (c .before) in omega arith
 
 element-copy-out-subtract : tie.Need-element-copy-out-subtract
-element-copy-out-subtract c = subtract-limits (c .before) .0
+element-copy-out-subtract c = let l = subtract-limits (c .before) in omega arith
 
 mul-subtract-2 : tie.Need-mul-subtract-2
 mul-subtract-2 c = let l = subtract-limits (c .before .before) in omega arith
 
 element-copy-out-subtract-2 : tie.Need-element-copy-out-subtract-2
-element-copy-out-subtract-2 c = subtract-limits (c .before .before) .1
+element-copy-out-subtract-2 c = let l = subtract-limits (c .before .before) in omega arith
 
 subtract-requires : tie.Need-subtract-requires
 subtract-requires c κs = search needs
@@ -179,9 +179,10 @@ unfolding move
 returns-4 c =
     let s = c .before .before .before .before .before .before .before .before in
     let a = s .args in
+    let x = c .before .before .before .before .before .before .op4 .given .0 in
     let p = s .pre in (
       rw (c .before .before .before .before .before .before .op4 .given .1)
-          (rw (c .before .before .add .ensures, read-back (c .before .before .before .before .add-arg .given), read-back (c .before .before .before .add-arg2 .given), settled-sum) at (c .settle .ensures .0 (tableOf (now (a .table))) (now (a .ro)) (now (a .wo)) (now (a .rv)) (now (a .wv)))),
+          (rw (c .before .before .add .ensures, read-back {z = register (now (a .registers)) (x .0)} (c .before .before .before .before .add-arg .given), read-back {z = register (now (a .registers)) (x .1 .0)} (c .before .before .before .add-arg2 .given), settled-sum) at (c .settle .ensures .0 (tableOf (now (a .table))) (now (a .ro)) (now (a .wo)) (now (a .rv)) (now (a .wv)))),
       c .settle .ensures .1,
       p .3,
       p .4,
@@ -192,9 +193,10 @@ unfolding move
 returns-5 c =
     let s = c .before .before .before .before .before .before .before .before in
     let a = s .args in
+    let x = c .before .before .before .before .before .before .op5 .given .0 in
     let p = s .pre in (
       rw (c .before .before .before .before .before .before .op5 .given .1)
-          (rw (c .before .before .subtract .ensures, read-back (c .before .before .before .before .subtract-arg .given), read-back (c .before .before .before .subtract-arg2 .given), settled-sum) at (c .settle2 .ensures .0 (tableOf (now (a .table))) (now (a .ro)) (now (a .wo)) (now (a .rv)) (now (a .wv)))),
+          (rw (c .before .before .subtract .ensures, read-back {z = register (now (a .registers)) (x .0)} (c .before .before .before .before .subtract-arg .given), read-back {z = register (now (a .registers)) (x .1 .0)} (c .before .before .before .subtract-arg2 .given), settled-sum) at (c .settle2 .ensures .0 (tableOf (now (a .table))) (now (a .ro)) (now (a .wo)) (now (a .rv)) (now (a .wv)))),
       c .settle2 .ensures .1,
       p .3,
       p .4,

@@ -1,0 +1,121 @@
+-- The fields of the record area, and their offsets. Assumes nothing.
+use mathlib.Core.Path.{_≡_, refl}
+use mathlib.Core.Option.{none}
+use mathlib.Core.List.{List, []}
+use Prim.Native.Nat.{ℕ, _≤_, _<_}
+use native.Mathlib.Omega.{arith}
+use lib.ListN.{length}
+use Rattle.operation.specs.Body.{registerCount}
+use Rattle.model.specs.declared.Limits.{Limits}
+use Rattle.model.specs.Limits.{standard}
+use Rattle.model.specs.Calls.{clients}
+use Rattle.model.specs.Serial.{Version}
+use Rattle.model.specs.ListLaws.{All}
+use Rattle.layout.specs.Codec.{cell, array, counted}
+use Rattle.layout.specs.Layout.{reader, Row, row, Record, object, record-cells, record-area, body, body-area}
+use Rattle.layout.specs.Offsets.{Sane, last-at, reader-at, size-at, object-width, object-at, pending-at, row-width, row-at, record-length, bodies-length}
+use Rattle.layout.specs.Lawful.{Sized, sized, Word, lawful-cell, lawful-rows}
+use Rattle.layout.specs.Printable.{ReaderFits, RowFits, LastsFit, ReadersFit, ObjectFits, ObjectsFit, RowsFit, lawful-reader, lawful-row, lawful-object, lawful-objects, lawful-rows-of}
+use Rattle.layout.specs.Field.{narrow, Field, _▸_, first, second, sized-pair, sized-counted, row-in, item}
+
+pub one-word : Sized cell Word
+one-word = record { len = λ a h. refl }
+
+-- ---- the record area, with what is known of its objects and its rows
+
+abbrev pub With : Limits → (List (List Version) → Type 0) → (List Row → Type 0) → Record → Type 0
+With l O Q r =
+    Word (r .0) × (LastsFit (r .1 .0) × (ReadersFit (l .readers) (r .1 .1 .0) × (O (r .1 .1 .1 .0) × Q (r .1 .1 .1 .1))))
+
+pub some-lasts : Sized (array clients cell) LastsFit
+some-lasts = sized (lawful-rows lawful-cell (omega arith) clients clients (omega arith))
+
+pub some-readers : (l : Limits) → Sized (array (l .readers) reader) (ReadersFit (l .readers))
+some-readers l = sized (lawful-rows lawful-reader (omega arith) (l .readers) (l .readers) (omega arith))
+
+module _ (l : Limits) {O : List (List Version) → Type 0} {Q : List Row → Type 0} (o : Sized (counted (l .objects) (object l)) O) (q : Sized (counted (l .pending) (row (l .operations))) Q) where
+  abbrev pub timestamp-field : Field (record-cells l) (With l O Q) cell Word
+  timestamp-field = first one-word (sized-pair some-lasts (sized-pair (some-readers l) (sized-pair o q)))
+
+  abbrev pub lasts-field : Field (record-cells l) (With l O Q) (array clients cell) LastsFit
+  lasts-field =
+      second one-word (sized-pair some-lasts (sized-pair (some-readers l) (sized-pair o q))) ▸ first some-lasts (sized-pair (some-readers l) (sized-pair o q))
+
+  abbrev pub readers-field : Field (record-cells l) (With l O Q) (array (l .readers) reader) (ReadersFit (l .readers))
+  readers-field =
+      second one-word (sized-pair some-lasts (sized-pair (some-readers l) (sized-pair o q))) ▸ second some-lasts (sized-pair (some-readers l) (sized-pair o q)) ▸ first (some-readers l) (sized-pair o q)
+
+  abbrev pub objects-field : Field (record-cells l) (With l O Q) (counted (l .objects) (object l)) O
+  objects-field =
+      second one-word (sized-pair some-lasts (sized-pair (some-readers l) (sized-pair o q))) ▸ second some-lasts (sized-pair (some-readers l) (sized-pair o q)) ▸ second (some-readers l) (sized-pair o q) ▸ first o q
+
+  abbrev pub rows-field : Field (record-cells l) (With l O Q) (counted (l .pending) (row (l .operations))) Q
+  rows-field =
+      second one-word (sized-pair some-lasts (sized-pair (some-readers l) (sized-pair o q))) ▸ second some-lasts (sized-pair (some-readers l) (sized-pair o q)) ▸ second (some-readers l) (sized-pair o q) ▸ second o q
+
+  abbrev pub last-field : (c : ℕ) → c < clients → Field (record-cells l) (With l O Q) cell Word
+  last-field c h = lasts-field ▸ item one-word clients c 0 h
+
+  abbrev pub reader-field : (r : ℕ) → r < l .readers → Field (record-cells l) (With l O Q) reader ReaderFits
+  reader-field r h = readers-field ▸ item (sized lawful-reader) (l .readers) r none h
+
+-- ---- object i and row i, where they are
+
+module _ (l : Limits) (s : Sane l) where
+  pub sized-object : Sized (object l) (ObjectFits (l .readers))
+  sized-object = sized (lawful-object l s)
+
+  pub sized-row : Sized (row (l .operations)) (RowFits (l .operations))
+  sized-row = sized (lawful-row (l .operations) (omega (arith, s .operations)))
+
+  pub sized-objects : Sized (counted (l .objects) (object l)) (ObjectsFit l)
+  sized-objects = sized (lawful-objects l s)
+
+  pub sized-rows : Sized (counted (l .pending) (row (l .operations))) (RowsFit l)
+  sized-rows = sized (lawful-rows-of l s)
+
+abbrev pub ObjectThere : Limits → ℕ → List (List Version) → Type 0
+ObjectThere l i xs = (length xs ≤ l .objects) × All (ObjectFits (l .readers)) xs × (i < length xs)
+
+abbrev pub RowThere : Limits → ℕ → List Row → Type 0
+RowThere l i xs = (length xs ≤ l .pending) × All (RowFits (l .operations)) xs × (i < length xs)
+
+module _ (l : Limits) (s : Sane l) (i : ℕ) where
+  abbrev pub object-field : i < l .objects → Field (record-cells l) (With l (ObjectThere l i) (RowsFit l)) (object l) (ObjectFits (l .readers))
+  object-field h =
+      objects-field l (narrow (sized-counted (sized-object l s) (l .objects)) (λ xs k. (k .0, k .1))) (sized-rows l s) ▸ row-in (sized-object l s) (l .objects) i [] h
+
+  abbrev pub row-field : i < l .pending → Row → Field (record-cells l) (With l (ObjectsFit l) (RowThere l i)) (row (l .operations)) (RowFits (l .operations))
+  row-field h d =
+      rows-field l (sized-objects l s) (narrow (sized-counted (sized-row l s) (l .pending)) (λ xs k. (k .0, k .1))) ▸ row-in (sized-row l s) (l .pending) i d h
+
+-- ---- sizes and offsets, as the code computes them
+
+pub sizes : (l : Limits) → (object l .size ≡ object-width l) × (row (l .operations) .size ≡ row-width l) × (record-area l .size ≡ record-length l) × (body-area l 0 .size ≡ bodies-length l)
+unfolding clients registerCount
+sizes l = (omega arith, omega arith, omega arith, refl)
+
+-- 3,514 cells, and 32 places of 177 bytes
+pub standard-sizes : (record-cells standard .size ≡ 3514) × (record-area standard .size ≡ 28112) × (body-area standard 0 .size ≡ 5664) × (body (standard .operations) .size ≡ 177)
+unfolding standard clients registerCount
+standard-sizes = (refl, refl, refl, refl)
+
+module _ (l : Limits) (s : Sane l) where
+  pub table-offsets : (objects-field l (sized-objects l s) (sized-rows l s) .at ≡ size-at l) × (rows-field l (sized-objects l s) (sized-rows l s) .at ≡ pending-at l)
+  unfolding clients
+  table-offsets = (omega arith, omega arith)
+
+  pub last-offset : (c : ℕ) (h : c < clients) → last-field l (sized-objects l s) (sized-rows l s) c h .at ≡ last-at c
+  last-offset c h = omega arith
+
+  pub reader-offset : (r : ℕ) (h : r < l .readers) → reader-field l (sized-objects l s) (sized-rows l s) r h .at ≡ reader-at r
+  unfolding clients
+  reader-offset r h = omega arith
+
+  pub object-offset : (i : ℕ) (h : i < l .objects) → object-field l s i h .at ≡ object-at l i
+  unfolding clients
+  object-offset i h = omega arith
+
+  pub row-offset : (i : ℕ) (h : i < l .pending) (d : Row) → row-field l s i h d .at ≡ row-at l i
+  unfolding clients registerCount
+  row-offset i h d = omega arith

@@ -1,0 +1,149 @@
+-- The shape check on areas: lengths, layout, and the model's shape on what is parsed. A shaped replica prints to fit areas and is read back.
+-- Assumes nothing.
+use mathlib.Core.Path.{_≡_, refl, ap, ap₂, _∙_}
+use mathlib.Core.Bool.{Bool, true, _&&_}
+use mathlib.Core.Option.{Option, none, some}
+use mathlib.Core.List.{List, [], _∷_, map}
+use Prim.Native.Nat.{ℕ, suc, _^_, _≤_, _<_}
+use native.Mathlib.Omega.{arith}
+use lib.IntN.{ℤ}
+use lib.Dec.{eqb, leb, ltb}
+use lib.Signed.{mag}
+use lib.ListN.{length, length-map}
+use borrow.Author.Tests.{eq-eqb, leb-true, ltb-true}
+use Rattle.cells.specs.Cells.{Below}
+use Rattle.arith.specs.Integer.{fits}
+use Rattle.operation.specs.Body.{wellFormed}
+use Rattle.operation.specs.Laws.{Formed, formed}
+use Rattle.execution.specs.Entries.{Entry}
+use Rattle.execution.specs.Agreement.{both}
+use Rattle.execution.specs.Shape.{every, all-fit}
+use Rattle.model.specs.declared.Limits.{Limits}
+use Rattle.model.specs.Lists.{any, all}
+use Rattle.model.specs.Calls.{clients, lastTimestamp, Transaction}
+use Rattle.model.specs.Serial.{Version}
+use Rattle.model.specs.Replica.{Pending, Replica, opens}
+use Rattle.model.specs.ListLaws.{All, or-right}
+use Rattle.model.specs.EarlyResults.{sents}
+use Rattle.model.specs.Shape.{VersionsShape, Unspent, Sets, size-of, RunEncoded, Shape}
+use Rattle.model.specs.ShapeRuns.{State, Standing, state-standing, in-order-states}
+use Rattle.model.specs.ShapeCheck.{shaped, shaped-says}
+use Rattle.layout.specs.Layout.{row-of, body-of, Areas, parse, print, lengths, laid}
+use Rattle.layout.specs.Offsets.{Sane}
+use Rattle.layout.specs.Lawful.{Word}
+use Rattle.layout.specs.Printable.{ValueFits, ReaderFits, VersionFits, EntryFits, RunFits, RowFits, ObjectFits, any-all, BodyFits, Printable}
+use Rattle.layout.specs.RoundTrips.{print-back, print-lengths, print-laid, print-parse}
+
+-- "an area of wrong length, or (except at opening) whose contents fail the shape check" is refused with 1
+unfoldable pub fit : Limits → Areas → Bool
+fit l a = lengths l a && (laid l a && shaped l (parse l a))
+
+pub record Fit (l : Limits) (a : Areas) : Type 0 where
+  pub lengths : lengths l a ≡ true
+  pub laid : laid l a ≡ true
+  pub shaped : shaped l (parse l a) ≡ true
+
+pub fit-says : (l : Limits) (a : Areas) → fit l a ≡ true → Fit l a
+unfolding fit
+fit-says l a e =
+    let (n, t) = both (lengths l a) (laid l a && shaped l (parse l a)) e in
+    let (o, s) = both (laid l a) (shaped l (parse l a)) t in
+    record { lengths = n; laid = o; shaped = s }
+
+-- ---- a shaped replica can be printed
+
+-- a test that holds of each, as a fact of each
+all-says : {A : Type 0} (q : A → Bool) (P : A → Type 0) → ((a : A) → q a ≡ true → P a) → (l : List A) → all q l ≡ true → All P l
+all-says q P h [] e = tt
+all-says q P h (x ∷ l) e = let (a, b) = both (q x) (all q l) e in (h x a, all-says q P h l b)
+
+value : (z : ℤ) → fits z ≡ true → ValueFits z
+unfolding fits
+value z e = record { sfits = ltb-true (mag z) (2 ^ 63) e }
+
+values : (g : List ℤ) → all-fit g ≡ true → All ValueFits g
+values [] e = tt
+values (z ∷ g) e = let (a, b) = both (fits z) (all-fit g) e in (value z a, values g b)
+
+entries : (n : ℕ) → n < 2 ^ 64 → (es : List Entry) → every (λ x. ltb (x .object) n) es ≡ true → every (λ x. fits (x .value)) es ≡ true → All EntryFits es
+entries n h [] e f = tt
+entries n h (x ∷ es) e f =
+    let (a, a′) = both (ltb (x .object) n) (every (λ x. ltb (x .object) n) es) e in
+    let (b, b′) = both (fits (x .value)) (every (λ x. fits (x .value)) es) f in
+    ((omega (arith, ltb-true (x .object) n a), value (x .value) b), entries n h es a′ b′)
+
+readers : (t : ℕ) → suc t < 2 ^ 64 → (rs : List (Option ℕ)) → ((r : ℕ) → any (eqb r) (opens rs) ≡ true → r ≤ t) → All ReaderFits rs
+readers t h [] f = tt
+readers t h (none ∷ rs) f = (omega arith, readers t h rs f)
+readers t h (some r ∷ rs) f =
+    (let k = f r (rw (eq-eqb r r refl)) in omega arith, readers t h rs (λ x e. f x (or-right (eqb x r) (any (eqb x) (opens rs)) e)))
+
+versions : (t : ℕ) → t < 2 ^ 64 → (vs : List Version) → all (λ v. leb (v .stamp) t) vs ≡ true → all (λ (v : Version). fits (v .value)) vs ≡ true → All VersionFits vs
+versions t h [] e f = tt
+versions t h (v ∷ vs) e f =
+    let (a, a′) = both (leb (v .stamp) t) (all (λ v. leb (v .stamp) t) vs) e in
+    let (b, b′) = both (fits (v .value)) (all (λ (v : Version). fits (v .value)) vs) f in
+    ((omega (arith, leb-true (v .stamp) t a), value (v .value) b), versions t h vs a′ b′)
+
+objects : (t n : ℕ) (rs : List ℕ) → t < 2 ^ 64 → (xs : List (List Version)) → All (λ (vs : List Version). length vs ≤ suc n) xs → All (VersionsShape t rs) xs → All (λ vs. all (λ (v : Version). fits (v .value)) vs ≡ true) xs → All (ObjectFits n) xs
+objects t n rs h [] k v f = tt
+objects t n rs h (x ∷ xs) k v f =
+    ((k .0, versions t h x (v .0 .bound) (f .0)), objects t n rs h xs (k .1) (v .1) (f .1))
+
+module _ (l : Limits) (s : Sane l) (n : ℕ) (few : n ≤ l .objects) (lasts : List ℕ) where
+  abbrev Bodied : Transaction → Type 0
+  Bodied x = wellFormed (l .operations) n (x .bytes) ≡ true
+
+  run : (j : Pending) → Formed (l .operations) n (j .sent .bytes) → Standing (size-of j) (j .run) → Sets n (j .run) → RunEncoded (j .run) → RunFits (l .operations) (j .run)
+  run j b k e c =
+      let m = s .operations in
+      let q = s .objects in
+      let i = k .within in
+      let r = b .most in
+      let small : n < 2 ^ 64 = omega arith in
+      (omega arith, (omega (arith, k .outcome), ((c .count, values (j .run .registers) (c .registers)), (omega (arith, e .room), entries n small (j .run .reads) (e .reads .below) (c .reads), entries n small (j .run .writes) (e .writes .below) (c .writes)))))
+
+  rows : (js : List Pending) → All (Unspent lasts) (sents js) → All (λ (x : Transaction). x .sequence < 2 ^ 32) (sents js) → All Bodied (sents js) → All State js → All (λ (j : Pending). Sets n (j .run)) js → All (λ (j : Pending). RunEncoded (j .run)) js
+      → All (RowFits (l .operations)) (map row-of js)
+  unfolding clients
+  rows [] k q b o e c = tt
+  rows (j ∷ js) k q b o e c =
+      (((omega (arith, k .0 .client), q .0), run j (formed (l .operations) n (j .sent .bytes) (b .0)) (state-standing j (o .0)) (e .0) (c .0)), rows js (k .1) (q .1) (b .1) (o .1) (e .1) (c .1))
+
+  bodies : (js : List Pending) → All Bodied (sents js) → All (BodyFits (l .operations)) (map body-of js)
+  bodies [] b = tt
+  bodies (j ∷ js) b =
+      let f = formed (l .operations) n (j .sent .bytes) (b .0) in
+      ((f .whole, omega (arith, f .most, f .whole), any-all (j .sent .bytes)), bodies js (b .1))
+
+module _ (l : Limits) (s : Sane l) (u : Replica) where
+  pub shape-fits : Shape l u → Printable l u
+  unfolding lastTimestamp
+  shape-fits k =
+      let n = length (u .objects) in
+      let t = k .encoded .timestamp in
+      record {
+        timestamp = omega arith;
+        lasts = (k .encoded .last-count, all-says (λ x. ltb x (2 ^ 32)) Word (λ x e. omega (arith, ltb-true x (2 ^ 32) e)) (u .lasts) (k .encoded .lasts));
+        readers = (k .encoded .reader-count, readers (u .timestamp) (omega arith) (u .readers) (k .readers));
+        objects = (k .few-objects, objects (u .timestamp) (l .readers) (opens (u .readers)) (omega arith) (u .objects) (k .few-versions) (k .versions) (k .encoded .values));
+        rows = (omega (arith, k .few-pending, length-map (u .pending) row-of), rows l s n (k .few-objects) (u .lasts) (u .pending) (k .unspent) (k .encoded .sequences) (k .bodies) (in-order-states (u .pending) (k .order)) (k .sets) (k .encoded .runs));
+        bodies = bodies l s n (k .few-objects) (u .lasts) (u .pending) (k .bodies);
+      }
+
+  -- ---- the round trips
+
+  module _ (e : shaped l u ≡ true) where
+    pub shaped-fits : Printable l u
+    shaped-fits = shape-fits (shaped-says l u .0 e)
+
+    pub parse-print : parse l (print l u) ≡ u
+    parse-print = print-back l s u shaped-fits
+
+    pub fit-print : fit l (print l u) ≡ true
+    unfolding fit
+    fit-print =
+        ap₂ _&&_ (print-lengths l s u shaped-fits) (ap₂ _&&_ (print-laid l s u shaped-fits) (ap (shaped l) parse-print ∙ e))
+
+pub fit-back : (l : Limits) (s : Sane l) (a : Areas) → Below 256 (a .0) → fit l a ≡ true → print l (parse l a) ≡ a
+fit-back l s a x e = let f = fit-says l a e in print-parse l s a x (f .lengths) (f .laid)

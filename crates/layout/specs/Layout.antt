@@ -1,0 +1,183 @@
+-- The two lent areas of a replica: the record area, cells of 8 bytes, and the body area, bytes. `parse` reads a replica from them, `print` writes
+-- it, `laid` says whether the contents are some replica's (unused cells and bytes are 0). Assumes nothing.
+use mathlib.Core.Bool.{Bool, true, _&&_}
+use mathlib.Core.Option.{Option, none, some}
+use mathlib.Core.List.{List, [], _∷_, _++_, map}
+use Prim.Native.Nat.{ℕ, zero, suc, _+_, _*_, _/_, _%_, _^_}
+use lib.IntN.{ℤ}
+use lib.ListN.{length, take, drop, getD}
+use lib.Dec.{eqb, leb}
+use mir.Syntax.{w64}
+use mir.Val.{toZ, ofZ}
+use Rattle.operation.specs.Body.{registerCount}
+use Rattle.execution.specs.Entries.{Entry}
+use Rattle.execution.specs.Run.{Run}
+use Rattle.model.specs.declared.Limits.{Limits}
+use Rattle.model.specs.Calls.{clients}
+use Rattle.model.specs.Serial.{Version}
+use Rattle.model.specs.Replica.{Pending, Replica}
+use Rattle.layout.specs.Codec.{Codec, cell, pair, via, rows, array, counted, padded, inBytes}
+
+-- ---- one cell
+
+-- two's complement
+abbrev pub signed : Codec ℤ
+signed = via (toZ w64) (ofZ w64) (λ x. true) cell
+
+-- a reader: 0 closed, else its timestamp + 1
+abbrev pub reader-of : ℕ → Option ℕ
+reader-of zero = none
+reader-of (suc s) = some s
+
+abbrev pub of-reader : Option ℕ → ℕ
+of-reader none = 0
+of-reader (some s) = suc s
+
+abbrev pub reader : Codec (Option ℕ)
+reader = via reader-of of-reader (λ x. true) cell
+
+-- a transaction's key: the client above the sequence number, which has 32 bits
+abbrev pub key-of : ℕ → ℕ × ℕ
+key-of k = (k / 2 ^ 32, k % 2 ^ 32)
+
+abbrev pub of-key : ℕ × ℕ → ℕ
+of-key x = x .0 * 2 ^ 32 + x .1
+
+abbrev pub key : Codec (ℕ × ℕ)
+key = via key-of of-key (λ x. true) cell
+
+-- ---- versions, entries, runs
+
+abbrev pub version-of : ℕ × ℤ → Version
+version-of x = record { stamp = x .0; value = x .1 }
+
+abbrev pub of-version : Version → ℕ × ℤ
+of-version v = (v .stamp, v .value)
+
+abbrev pub version : Codec Version
+version = via version-of of-version (λ x. true) (pair cell signed)
+
+abbrev pub entry-of : ℕ × ℤ → Entry
+entry-of x = record { object = x .0; value = x .1 }
+
+abbrev pub of-entry : Entry → ℕ × ℤ
+of-entry e = (e .object, e .value)
+
+abbrev pub entry : Codec Entry
+entry = via entry-of of-entry (λ x. true) (pair cell signed)
+
+-- two lists in one table of p places: the length of the first, then a count and both lists, the second right behind the first
+abbrev pub parted : {A : Type 0} → ℕ × List A → List A × List A
+parted x = (take (x .0) (x .1), drop (x .0) (x .1))
+
+abbrev pub joined : {A : Type 0} → List A × List A → ℕ × List A
+joined y = (length (y .0), y .0 ++ y .1)
+
+abbrev pub within : {A : Type 0} → ℕ × List A → Bool
+within x = leb (x .0) (length (x .1))
+
+abbrev pub two : {A : Type 0} → ℕ → Codec A → Codec (List A × List A)
+two p c = via parted joined within (pair cell (counted p c))
+
+-- a run: program counter, outcome, registers, read set and write set
+abbrev pub Parts : Type 0
+Parts = ℕ × (ℕ × (List ℤ × (List Entry × List Entry)))
+
+abbrev pub run-of : Parts → Run
+run-of x =
+    record { counter = x .0; outcome = x .1 .0; registers = x .1 .1 .0; reads = x .1 .1 .1 .0; writes = x .1 .1 .1 .1 }
+
+abbrev pub of-run : Run → Parts
+of-run p = (p .counter, (p .outcome, (p .registers, (p .reads, p .writes))))
+
+abbrev pub run : ℕ → Codec Run
+run m =
+    via run-of of-run (λ x. true) (pair cell (pair cell (pair (array registerCount signed) (two m entry))))
+
+-- ---- the record area
+
+-- a pending transaction without its body: key and run
+abbrev pub Row : Type 0
+Row = (ℕ × ℕ) × Run
+
+abbrev pub row : ℕ → Codec Row
+row m = pair key (run m)
+
+-- timestamp, last numbers, readers, objects with their versions, rows
+abbrev pub Record : Type 0
+Record = ℕ × (List ℕ × (List (Option ℕ) × (List (List Version) × List Row)))
+
+abbrev pub object : Limits → Codec (List Version)
+object l = counted (suc (l .readers)) version
+
+abbrev pub record-cells : Limits → Codec Record
+record-cells l =
+    pair cell (pair (array clients cell) (pair (array (l .readers) reader) (pair (counted (l .objects) (object l)) (counted (l .pending) (row (l .operations))))))
+
+abbrev pub record-area : Limits → Codec Record
+record-area l = inBytes (record-cells l)
+
+-- ---- the body area: "32 places of 177 bytes in optimistic order; unused bytes are 0"
+
+-- "The length is exactly 1 + 11m."
+abbrev pub body-length : ℕ → ℕ
+body-length m = 1 + 11 * m
+
+abbrev pub body : ℕ → Codec (List ℕ)
+body m = padded (body-length m) body-length
+
+-- k places in use
+abbrev pub body-area : Limits → ℕ → Codec (List (List ℕ))
+body-area l k = rows k (l .pending) (body (l .operations))
+
+-- ---- the replica, taken apart and put together
+
+abbrev pub row-of : Pending → Row
+row-of j = ((j .sent .client, j .sent .sequence), j .run)
+
+abbrev pub body-of : Pending → List ℕ
+body-of j = j .sent .bytes
+
+abbrev pub pending-from : Row → List ℕ → Pending
+pending-from r b =
+    record { sent = record { client = r .0 .0; sequence = r .0 .1; bytes = b }; run = r .1 }
+
+abbrev pub all-from : List Row → List (List ℕ) → List Pending
+all-from [] bs = []
+all-from (r ∷ rs) bs = pending-from r (getD bs 0 []) ∷ all-from rs (drop 1 bs)
+
+abbrev pub record-of : Replica → Record
+record-of u = (u .timestamp, (u .lasts, (u .readers, (u .objects, map row-of (u .pending)))))
+
+abbrev pub bodies-of : Replica → List (List ℕ)
+bodies-of u = map body-of (u .pending)
+
+abbrev pub replica-from : Record → List (List ℕ) → Replica
+replica-from r bs =
+    record { timestamp = r .0; objects = r .1 .1 .1 .0; lasts = r .1 .0; pending = all-from (r .1 .1 .1 .1) bs; readers = r .1 .1 .0 }
+
+-- ---- parse and print
+
+-- the record area and the body area
+abbrev pub Areas : Type 0
+Areas = List ℕ × List ℕ
+
+abbrev pub row-count : Record → ℕ
+row-count r = length (r .1 .1 .1 .1)
+
+unfoldable pub parse : Limits → Areas → Replica
+parse l a =
+    let r : Record = record-area l .dec (a .0) in
+    replica-from r (body-area l (row-count r) .dec (a .1))
+
+unfoldable pub print : Limits → Replica → Areas
+print l u = (record-area l .enc (record-of u), body-area l (length (u .pending)) .enc (bodies-of u))
+
+-- both areas have the length that the limits give
+unfoldable pub lengths : Limits → Areas → Bool
+lengths l a = eqb (length (a .0)) (record-area l .size) && eqb (length (a .1)) (body-area l 0 .size)
+
+-- the layout's own check: counts within their limits, and zeros in what is unused
+unfoldable pub laid : Limits → Areas → Bool
+laid l a =
+    record-area l .ok (a .0) && body-area l (row-count (record-area l .dec (a .0))) .ok (a .1)

@@ -1,0 +1,100 @@
+-- Offsets lie in their areas, the areas' lengths are far from an overflow, and the limits of both kinds of replica are sane. Assumes nothing.
+use mathlib.Core.Path.{_≡_, refl, ap}
+use Prim.Native.Nat.{ℕ, _+_, _-_, _*_, _^_, _≤_, _<_}
+use native.Mathlib.Omega.{arith}
+use native.Mathlib.Nat.{mul-le-mul, mul-le-mul-right}
+use Rattle.model.specs.declared.Limits.{Limits}
+use Rattle.model.specs.Limits.{standard, small}
+use Rattle.layout.specs.RowLaws.{split-rows}
+use Rattle.layout.specs.Offsets.{Sane, object-width, object-at, pending-at, row-width, row-at, record-length, body-width, body-at, bodies-length, CellAt, ByteAt}
+
+pub standard-sane : Sane standard
+unfolding standard
+standard-sane = record { objects = omega arith; pending = omega arith; readers = omega arith; operations = omega arith }
+
+pub small-sane : Sane small
+unfolding small
+small-sane = record { objects = omega arith; pending = omega arith; readers = omega arith; operations = omega arith }
+
+-- document 01 and the plan: 3,514 cells and 32 places of 177 bytes
+pub standard-lengths : (record-length standard ≡ 28112) × (row-at standard (standard .pending) ≡ 3514) × (bodies-length standard ≡ 5664) × (body-width standard ≡ 177)
+unfolding standard
+standard-lengths = (refl, refl, refl, refl)
+
+pub small-lengths : (record-length small ≡ 2664) × (bodies-length small ≡ 712)
+unfolding small
+small-lengths = (refl, refl)
+
+pub standard-offsets : (object-at standard 0 ≡ 25) × (object-width standard ≡ 17) × (pending-at standard ≡ 2201) × (row-at standard 0 ≡ 2202) × (row-width standard ≡ 41)
+unfolding standard
+standard-offsets = (refl, refl, refl, refl, refl)
+
+module _ (l : Limits) (s : Sane l) where
+  -- ---- products stay small
+
+  object-product : (i : ℕ) → i ≤ l .objects → (i * object-width l ≤ l .objects * object-width l) × (l .objects * object-width l ≤ 65536 * 131075)
+  object-product i h =
+      let r = s .readers in
+      let w : object-width l ≤ 131075 = omega arith in
+      (mul-le-mul h (omega arith), mul-le-mul (s .objects) w)
+
+  row-product : (i : ℕ) → i ≤ l .pending → (i * row-width l ≤ l .pending * row-width l) × (l .pending * row-width l ≤ 65536 * 131081)
+  row-product i h =
+      let m = s .operations in
+      let w : row-width l ≤ 131081 = omega arith in
+      (mul-le-mul h (omega arith), mul-le-mul (s .pending) w)
+
+  body-product : (i : ℕ) → i ≤ l .pending → (i * body-width l ≤ l .pending * body-width l) × (l .pending * body-width l ≤ 65536 * 720897)
+  body-product i h =
+      let m = s .operations in
+      let w : body-width l ≤ 720897 = omega arith in
+      (mul-le-mul h (omega arith), mul-le-mul (s .pending) w)
+
+  record-small : record-length l ≤ 2 ^ 38
+  record-small =
+      let r = s .readers in
+      let a = object-product (l .objects) (omega arith) .1 in
+      let b = row-product (l .pending) (omega arith) .1 in
+      omega arith
+
+  -- ---- each offset, from the widths that the code has
+
+  pub object-cell : (i : ℕ) → i ≤ l .objects → (w : ℕ) → w ≡ object-width l → CellAt l (object-at l i) (18 + l .readers + i * w)
+  object-cell i h w e =
+      let a = object-product i h .0 in
+      let q = ap (λ (k : ℕ). i * k) e in
+      record { exact = omega arith; inside = omega arith; small = record-small }
+
+  pub row-cell : (i : ℕ) → i ≤ l .pending → (p w : ℕ) → p ≡ pending-at l → w ≡ row-width l → CellAt l (row-at l i) (1 + p + i * w)
+  row-cell i h p w d e =
+      let a = row-product i h .0 in
+      let q = ap (λ (k : ℕ). i * k) e in
+      record { exact = omega arith; inside = omega arith; small = record-small }
+
+  pub body-byte : (i : ℕ) → i ≤ l .pending → (w : ℕ) → w ≡ body-width l → ByteAt l (body-at l i) (i * w)
+  body-byte i h w e =
+      let (a, b) = body-product i h in
+      let q = ap (λ (k : ℕ). i * k) e in
+      record { exact = q; inside = omega arith; small = omega arith }
+
+-- ---- what is there lies in its area as a whole
+
+pub object-room : (l : Limits) (i : ℕ) → i < l .objects → (object-at l i + object-width l) * 8 ≤ record-length l
+object-room l i h = omega (arith, mul-le-mul-right (object-width l) h)
+
+pub row-room : (l : Limits) (i : ℕ) → i < l .pending → (row-at l i + row-width l) * 8 ≤ record-length l
+row-room l i h = omega (arith, mul-le-mul-right (row-width l) h)
+
+pub body-room : (l : Limits) (i : ℕ) → i < l .pending → body-at l i + body-width l ≤ bodies-length l
+body-room l i h = omega (arith, mul-le-mul-right (body-width l) h)
+
+-- ---- the length of a part from one offset to another
+
+pub object-span : (l : Limits) (i q : ℕ) → i ≤ q → object-at l q * 8 - object-at l i * 8 ≡ (q - i) * (object-width l * 8)
+object-span l i q h = omega (arith, split-rows q i (object-width l) h)
+
+pub row-span : (l : Limits) (i q : ℕ) → i ≤ q → row-at l q * 8 - row-at l i * 8 ≡ (q - i) * (row-width l * 8)
+row-span l i q h = omega (arith, split-rows q i (row-width l) h)
+
+pub body-spans : (l : Limits) (i q : ℕ) → i ≤ q → body-at l q - body-at l i ≡ (q - i) * body-width l
+body-spans l i q h = omega (arith, split-rows q i (body-width l) h)

@@ -1,0 +1,217 @@
+-- Which values each part of the areas can hold, and the laws of the two areas, by composition. Assumes nothing.
+use mathlib.Core.Path.{_≡_, refl}
+use mathlib.Core.Bool.{true}
+use mathlib.Core.Option.{Option, none, some}
+use mathlib.Core.List.{List, [], _∷_, _++_, map}
+use Prim.Native.Nat.{ℕ, zero, suc, _+_, _*_, _/_, _%_, _^_, _≤_, _<_}
+use native.Mathlib.Omega.{arith}
+use lib.IntN.{ℤ, pos}
+use lib.ListN.{length, replicate, length-append, length-drop, length-replicate, take-append-drop}
+use lib.Seq.{take-at, drop-at, length-take-le}
+use borrow.Author.Tests.{le-leb, leb-true}
+use mir.Syntax.{w64}
+use mir.Val.{toZ, ofZ, SFits}
+use mir.Facts.{toZ-ofZ, ofZ-toZ, sfits-toZ}
+use Rattle.operation.specs.Body.{registerCount}
+use Rattle.execution.specs.Entries.{Entry}
+use Rattle.execution.specs.Run.{Run, start}
+use Rattle.model.specs.declared.Limits.{Limits}
+use Rattle.model.specs.Calls.{clients}
+use Rattle.model.specs.Serial.{Version}
+use Rattle.model.specs.Replica.{Replica}
+use Rattle.model.specs.ListLaws.{All}
+use Rattle.layout.specs.Codec.{Codec, counted}
+use Rattle.layout.specs.Layout.{signed, reader, reader-of, of-reader, key-of, of-key, key, version-of, of-version, version, entry-of, of-entry, entry, parted, joined, within, two, run-of, of-run, run, Row, row, Record, object, record-cells, record-area, body-length, body, body-area, row-of, body-of, record-of, bodies-of}
+use Rattle.layout.specs.Offsets.{Sane}
+use Rattle.layout.specs.Lawful.{Lawful, lawful-cell, lawful-pair, lawful-via, lawful-iso, lawful-rows, lawful-counted, lawful-padded, lawful-bytes, Padded, Byte, Word, all-join, all-take, all-drop}
+
+-- ---- one cell
+
+abbrev pub ValueFits : ℤ → Type 0
+ValueFits z = SFits w64 z
+
+bits-word : (z : ℤ) → SFits w64 z → ofZ w64 z < 2 ^ 64
+bits-word (ℤ.pos n) f = let l = f .sfits in omega arith
+bits-word (ℤ.negsuc n) f = let l = f .sfits in omega arith
+
+pub lawful-signed : Lawful Word signed ValueFits
+lawful-signed =
+    lawful-via lawful-cell (toZ w64) (ofZ w64) (λ x. true)
+    (record { there = bits-word; round = λ z f. toZ-ofZ f; fine = λ z f. refl; again = λ n h e. ofZ-toZ {w = w64} (record { fits = h }); onto = λ n h e. sfits-toZ {w = w64} (record { fits = h }) })
+
+abbrev pub ReaderFits : Option ℕ → Type 0
+ReaderFits x = of-reader x < 2 ^ 64
+
+reader-round : (x : Option ℕ) → reader-of (of-reader x) ≡ x
+reader-round none = refl
+reader-round (some s) = refl
+
+reader-again : (n : ℕ) → of-reader (reader-of n) ≡ n
+reader-again zero = refl
+reader-again (suc n) = refl
+
+pub lawful-reader : Lawful Word reader ReaderFits
+lawful-reader = lawful-iso lawful-cell reader-of of-reader reader-round reader-again
+
+abbrev pub KeyFits : ℕ × ℕ → Type 0
+KeyFits x = (x .0 < 2 ^ 32) × (x .1 < 2 ^ 32)
+
+key-round : (c s : ℕ) → s < 2 ^ 32 → ((c * 2 ^ 32 + s) / 2 ^ 32 ≡ c) × ((c * 2 ^ 32 + s) % 2 ^ 32 ≡ s)
+key-round c s h = (omega arith, omega arith)
+
+pub lawful-key : Lawful Word key KeyFits
+lawful-key =
+    lawful-via lawful-cell key-of of-key (λ x. true)
+    (record {
+      there = λ x h. let a = h .0 in let b = h .1 in omega arith;
+      round = λ x h. (let e = key-round (x .0) (x .1) (h .1) in λ i. (e .0 i, e .1 i));
+      fine = λ x h. refl;
+      again = λ n h e. omega arith;
+      onto = λ n h e. (omega arith, omega arith);
+    })
+
+-- ---- versions and entries
+
+abbrev pub VersionFits : Version → Type 0
+VersionFits v = Word (v .stamp) × ValueFits (v .value)
+
+pub lawful-version : Lawful Word version VersionFits
+lawful-version =
+    lawful-iso (lawful-pair lawful-cell lawful-signed) version-of of-version (λ v. refl) (λ x. refl)
+
+abbrev pub EntryFits : Entry → Type 0
+EntryFits e = Word (e .object) × ValueFits (e .value)
+
+pub lawful-entry : Lawful Word entry EntryFits
+lawful-entry = lawful-iso (lawful-pair lawful-cell lawful-signed) entry-of of-entry (λ e. refl) (λ x. refl)
+
+-- ---- two lists in one table
+
+abbrev pub TwoFit : {A : Type 0} → (A → Type 0) → ℕ → List A × List A → Type 0
+TwoFit P p y = (length (y .0) + length (y .1) ≤ p) × All P (y .0) × All P (y .1)
+
+module _ {A : Type 0} {c : Codec A} {P : A → Type 0} (u : Lawful Word c P) (p : ℕ) (room : p < 2 ^ 64) where
+  pub lawful-two : Lawful Word (two p c) (TwoFit P p)
+  lawful-two =
+      lawful-via (lawful-pair lawful-cell (lawful-counted u (omega arith) p (λ n h. omega arith))) parted joined within
+      (record {
+        there = λ y h. let a = h .0 in
+            (omega arith, (omega (arith, length-append (y .0) (y .1)), all-join P (y .0) (y .1) (h .1) (h .2)));
+        round = λ y h. λ i. (take-at (y .0) (y .1) (length (y .0)) refl i, drop-at (y .0) (y .1) (length (y .0)) refl i);
+        fine = λ y h. le-leb (length (y .0)) (length (y .0 ++ y .1)) (omega (arith, length-append (y .0) (y .1)));
+        again = λ x h e. (let l = length-take-le (x .0) (x .1) (leb-true (x .0) (length (x .1)) e) in λ i. (l i, take-append-drop (x .0) (x .1) i));
+        onto = λ x h e. let k = h .1 .0 in
+            let l = leb-true (x .0) (length (x .1)) e in
+            (omega (arith, length-take-le (x .0) (x .1) l, length-drop (x .0) (x .1)), all-take P (x .0) (x .1) (h .1 .1), all-drop P (x .0) (x .1) (h .1 .1));
+      })
+
+-- ---- runs and rows
+
+abbrev pub RegistersFit : List ℤ → Type 0
+RegistersFit g = (length g ≡ registerCount) × All ValueFits g
+
+abbrev pub RunFits : ℕ → Run → Type 0
+RunFits m p =
+    Word (p .counter) × (Word (p .outcome) × (RegistersFit (p .registers) × TwoFit EntryFits m (p .reads, p .writes)))
+
+abbrev pub RowFits : ℕ → Row → Type 0
+RowFits m r = KeyFits (r .0) × RunFits m (r .1)
+
+module _ (m : ℕ) (room : m < 2 ^ 64) where
+  pub lawful-run : Lawful Word (run m) (RunFits m)
+  lawful-run =
+      lawful-iso
+      (lawful-pair lawful-cell (lawful-pair lawful-cell (lawful-pair (lawful-rows lawful-signed (omega arith) registerCount registerCount (omega arith)) (lawful-two lawful-entry m room))))
+      run-of of-run (λ p. refl) (λ x. refl)
+
+  pub lawful-row : Lawful Word (row m) (RowFits m)
+  lawful-row = lawful-pair lawful-key lawful-run
+
+-- a transaction at its start
+values-zero : (n : ℕ) → All ValueFits (replicate n (pos 0))
+values-zero zero = tt
+values-zero (suc n) = (record { sfits = omega arith }, values-zero n)
+
+pub start-fits : (m : ℕ) (k : ℕ × ℕ) → KeyFits k → RowFits m (k, start)
+unfolding start
+start-fits m k g =
+    (g, (omega arith, (omega arith, ((length-replicate registerCount (pos 0), values-zero registerCount), (omega arith, tt, tt)))))
+
+-- ---- the record area
+
+abbrev pub LastsFit : List ℕ → Type 0
+LastsFit xs = (length xs ≡ clients) × All Word xs
+
+abbrev pub ReadersFit : ℕ → List (Option ℕ) → Type 0
+ReadersFit n xs = (length xs ≡ n) × All ReaderFits xs
+
+abbrev pub ObjectFits : ℕ → List Version → Type 0
+ObjectFits n vs = (length vs ≤ suc n) × All VersionFits vs
+
+abbrev pub ObjectsFit : Limits → List (List Version) → Type 0
+ObjectsFit l xs = (length xs ≤ l .objects) × All (ObjectFits (l .readers)) xs
+
+abbrev pub RowsFit : Limits → List Row → Type 0
+RowsFit l xs = (length xs ≤ l .pending) × All (RowFits (l .operations)) xs
+
+abbrev pub RecordFits : Limits → Record → Type 0
+RecordFits l r =
+    Word (r .0) × (LastsFit (r .1 .0) × (ReadersFit (l .readers) (r .1 .1 .0) × (ObjectsFit l (r .1 .1 .1 .0) × RowsFit l (r .1 .1 .1 .1))))
+
+-- a slice's type says that a body's bytes are bytes: the layout asks nothing of them
+abbrev pub Any : ℕ → Type 0
+Any n = Unit {0}
+
+pub any-all : (xs : List ℕ) → All Any xs
+any-all [] = tt
+any-all (x ∷ xs) = (tt, any-all xs)
+
+abbrev pub BodyFits : ℕ → List ℕ → Type 0
+BodyFits m = Padded Any (body-length m) body-length
+
+module _ (l : Limits) (s : Sane l) where
+  pub lawful-rows-of : Lawful Word (counted (l .pending) (row (l .operations))) (RowsFit l)
+  lawful-rows-of =
+      lawful-counted (lawful-row (l .operations) (omega (arith, s .operations))) (omega arith) (l .pending) (λ n h. omega (arith, s .pending))
+
+  pub lawful-object : Lawful Word (object l) (ObjectFits (l .readers))
+  lawful-object =
+      lawful-counted lawful-version (omega arith) (suc (l .readers)) (λ n h. omega (arith, s .readers))
+
+  pub lawful-objects : Lawful Word (counted (l .objects) (object l)) (ObjectsFit l)
+  lawful-objects = lawful-counted lawful-object (omega arith) (l .objects) (λ n h. omega (arith, s .objects))
+
+  pub lawful-record-cells : Lawful Word (record-cells l) (RecordFits l)
+  lawful-record-cells =
+      lawful-pair lawful-cell
+      (lawful-pair (lawful-rows lawful-cell (omega arith) clients clients (omega arith))
+      (lawful-pair (lawful-rows lawful-reader (omega arith) (l .readers) (l .readers) (omega arith))
+      (lawful-pair lawful-objects lawful-rows-of)))
+
+  pub lawful-record : Lawful Byte (record-area l) (RecordFits l)
+  lawful-record = lawful-bytes lawful-record-cells
+
+  -- ---- the body area
+
+  pub lawful-body : Lawful Any (body (l .operations)) (BodyFits (l .operations))
+  lawful-body = lawful-padded Any (body-length (l .operations)) body-length tt (λ n. omega arith)
+
+  pub lawful-bodies : (k : ℕ) → k ≤ l .pending → Lawful Any (body-area l k) (λ xs. (length xs ≡ k) × All (BodyFits (l .operations)) xs)
+  lawful-bodies k h = lawful-rows lawful-body tt (l .pending) k h
+
+-- ---- a replica that the areas can hold
+
+pub record Printable (l : Limits) (u : Replica) : Type 0 where
+  pub timestamp : Word (u .timestamp)
+  pub lasts : LastsFit (u .lasts)
+  pub readers : ReadersFit (l .readers) (u .readers)
+  pub objects : ObjectsFit l (u .objects)
+  pub rows : RowsFit l (map row-of (u .pending))
+  pub bodies : All (BodyFits (l .operations)) (map body-of (u .pending))
+
+pub record-fits : (l : Limits) (u : Replica) → Printable l u → RecordFits l (record-of u)
+record-fits l u g = (g .timestamp, (g .lasts, (g .readers, (g .objects, g .rows))))
+
+pub fits-record : (l : Limits) (u : Replica) → RecordFits l (record-of u) → All (BodyFits (l .operations)) (bodies-of u) → Printable l u
+fits-record l u r b =
+    record { timestamp = r .0; lasts = r .1 .0; readers = r .1 .1 .0; objects = r .1 .1 .1 .0; rows = r .1 .1 .1 .1; bodies = b }

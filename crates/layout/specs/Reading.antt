@@ -1,0 +1,154 @@
+-- What code reads from a record area that holds a replica, cell by cell and part by part. Assumes nothing.
+use mathlib.Core.Path.{_≡_, refl, sym, ap, ap₂, _∙_}
+use mathlib.Core.Option.{none}
+use mathlib.Core.List.{List, [], map}
+use Prim.Native.Nat.{ℕ, _+_, _-_, _*_, _≤_, _<_}
+use native.Mathlib.Omega.{arith}
+use native.Mathlib.Nat.{mul-assoc}
+use lib.ListN.{length, drop, getD, length-map, length-drop, List·getD-map}
+use borrow.Rule.Slice.PartMut.{midOf}
+use Rattle.cells.specs.Cells.{cells, uncells}
+use Rattle.cells.specs.Uncells.{uncells-part}
+use Rattle.model.specs.declared.Limits.{Limits}
+use Rattle.model.specs.Calls.{clients}
+use Rattle.model.specs.Replica.{Pending, Replica}
+use Rattle.model.specs.ListLaws.{All}
+use Rattle.layout.specs.Rows.{flat, table}
+use Rattle.layout.specs.RowLaws.{table-full}
+use Rattle.layout.specs.Codec.{Codec, counted, inBytes}
+use Rattle.layout.specs.Layout.{of-reader, Row, row, Record, object, record-cells, row-of, record-of}
+use Rattle.layout.specs.Offsets.{Sane, last-at, reader-at, size-at, object-width, object-at, pending-at, row-width, row-at}
+use Rattle.layout.specs.Printable.{ObjectsFit, RowsFit, RecordFits, record-fits}
+use Rattle.layout.specs.Lawful.{Sized}
+use Rattle.layout.specs.Field.{Field, cell-read, in-bytes}
+use Rattle.layout.specs.Tables.{map-drop, bytes-table, field-places}
+use Rattle.layout.specs.RowCells.{array-cells}
+use Rattle.layout.specs.Fields.{With, ObjectThere, RowThere, sized-object, sized-row, sized-objects, sized-rows, timestamp-field, readers-field, objects-field, rows-field, last-field, reader-field, object-field, row-field, sizes, table-offsets, last-offset, reader-offset, object-offset, row-offset}
+use Rattle.layout.specs.Holds.{Holds, holds-cells}
+
+module _ (l : Limits) (s : Sane l) (b : List ℕ) (u : Replica) (h : Holds l b u) where
+  -- ---- any field: its cells, and the part of the area that it is
+
+  module _ {B : Type 0} {P : Record → Type 0} {f : Codec B} {Q : B → Type 0} (F : Field (record-cells l) P f Q) (p : P (record-of u)) where
+    pub get-field : (k : ℕ) → k < f .size → (i : ℕ) → F .at + k ≡ i → getD (cells b) i 0 ≡ getD (f .enc (F .get (record-of u))) k 0
+    get-field k low i e =
+        ap (λ (w : List ℕ). getD w i 0) (holds-cells l s b u h)
+        ∙ ap (λ (j : ℕ). getD (record-cells l .enc (record-of u)) j 0) (sym e)
+        ∙ cell-read F (record-of u) p k low
+
+    pub field-part : (i n : ℕ) → F .at ≡ i → f .size ≡ n → midOf (i * 8) (n * 8) b ≡ uncells (f .enc (F .get (record-of u)))
+    field-part i n e q =
+        ap (midOf (i * 8) (n * 8)) (h .same)
+        ∙ ap₂ (λ (j k : ℕ). midOf (j * 8) (k * 8) (uncells (record-cells l .enc (record-of u)))) (sym e) (sym q)
+        ∙ in-bytes F .read (record-of u) p
+
+  -- the rows of a table from i on, with the places up to q
+  module _ {B : Type 0} {P : Record → Type 0} {c : Codec B} {R : B → Type 0} {n : ℕ} (z : Sized c R) (F : Field (record-cells l) P (counted n c) (λ xs. (length xs ≤ n) × All R xs)) (p : P (record-of u)) where
+    pub table-part : (i q : ℕ) → i ≤ length (F .get (record-of u)) → length (F .get (record-of u)) ≤ q → q ≤ n → (a k : ℕ) → F .at + (1 + i * c .size) ≡ a → c .size ≡ k
+        → midOf (a * 8) ((q - i) * (k * 8)) b ≡ table (q - i) (k * 8) (map (inBytes c .enc) (drop i (F .get (record-of u))))
+    table-part i q low few most a k e w =
+        let xs = F .get (record-of u) in
+        let m : (q - i) * (k * 8) ≡ (q - i) * c .size * 8 = ap (λ (j : ℕ). (q - i) * (j * 8)) (sym w) ∙ sym (mul-assoc (q - i) (c .size) 8) in
+        ap (midOf (a * 8) ((q - i) * (k * 8))) (h .same)
+        ∙ ap₂ (λ (j k : ℕ). midOf (j * 8) k (uncells (record-cells l .enc (record-of u)))) (sym e) m
+        ∙ uncells-part (F .at + (1 + i * c .size)) ((q - i) * c .size) (record-cells l .enc (record-of u))
+        ∙ ap uncells (field-places z F (record-of u) p i q low few most)
+        ∙ bytes-table c (q - i) (drop i xs)
+        ∙ ap (λ (j : ℕ). table (q - i) (j * 8) (map (inBytes c .enc) (drop i xs))) w
+
+  known : RecordFits l (record-of u)
+  known = record-fits l u (h .fits)
+
+  -- ---- single cells
+
+  pub get-timestamp : getD (cells b) 0 0 ≡ u .timestamp
+  get-timestamp =
+      get-field (timestamp-field l (sized-objects l s) (sized-rows l s)) known 0 (omega arith) 0 refl
+
+  pub get-last : (c : ℕ) → c < clients → getD (cells b) (last-at c) 0 ≡ getD (u .lasts) c 0
+  get-last c k =
+      get-field (last-field l (sized-objects l s) (sized-rows l s) c k) known 0 (omega arith) (last-at c) (omega (arith, last-offset l s c k))
+
+  pub get-reader : (r : ℕ) → r < l .readers → getD (cells b) (reader-at r) 0 ≡ of-reader (getD (u .readers) r none)
+  get-reader r k =
+      get-field (reader-field l (sized-objects l s) (sized-rows l s) r k) known 0 (omega arith) (reader-at r) (omega (arith, reader-offset l s r k))
+
+  pub get-size : getD (cells b) (size-at l) 0 ≡ length (u .objects)
+  get-size =
+      get-field (objects-field l (sized-objects l s) (sized-rows l s)) known 0 (omega arith) (size-at l) (omega (arith, table-offsets l s .0))
+
+  pub get-pending : getD (cells b) (pending-at l) 0 ≡ length (u .pending)
+  get-pending =
+      get-field (rows-field l (sized-objects l s) (sized-rows l s)) known 0 (omega arith) (pending-at l) (omega (arith, table-offsets l s .1))
+      ∙ length-map (u .pending) row-of
+
+  -- all readers
+  pub readers-part : midOf (reader-at 0 * 8) (l .readers * 8) b ≡ uncells (map of-reader (u .readers))
+  unfolding clients
+  readers-part =
+      field-part (readers-field l (sized-objects l s) (sized-rows l s)) known (reader-at 0) (l .readers) refl (omega arith)
+      ∙ ap uncells (array-cells of-reader (l .readers) (u .readers) (h .fits .readers .0))
+
+  -- ---- object i: its block, and a cell of it
+
+  module _ (i : ℕ) (k : i < length (u .objects)) where
+    object-low : i < l .objects
+    object-low = omega (arith, h .fits .objects .0)
+
+    object-known : With l (ObjectThere l i) (RowsFit l) (record-of u)
+    object-known =
+        (h .fits .timestamp, (h .fits .lasts, (h .fits .readers, ((h .fits .objects .0, h .fits .objects .1, k), h .fits .rows))))
+
+    pub object-part : midOf (object-at l i * 8) (object-width l * 8) b ≡ uncells (object l .enc (getD (u .objects) i []))
+    object-part =
+        field-part (object-field l s i object-low) object-known (object-at l i) (object-width l) (object-offset l s i object-low) (sizes l .0)
+
+    pub get-object : (j : ℕ) → j < object-width l → getD (cells b) (object-at l i + j) 0 ≡ getD (object l .enc (getD (u .objects) i [])) j 0
+    get-object j low =
+        get-field (object-field l s i object-low) object-known j (omega (arith, sizes l .0)) (object-at l i + j) (omega (arith, object-offset l s i object-low))
+
+  -- the blocks of all objects
+  pub objects-part : midOf (object-at l 0 * 8) (length (u .objects) * (object-width l * 8)) b ≡ flat (map (inBytes (object l) .enc) (u .objects))
+  objects-part =
+      let n = length (u .objects) in
+      let z : n - 0 ≡ n = omega arith in
+      ap (λ (j : ℕ). midOf (object-at l 0 * 8) (j * (object-width l * 8)) b) (sym z)
+      ∙ table-part (sized-object l s) (objects-field l (sized-objects l s) (sized-rows l s)) known 0 n (omega arith) (omega arith) (h .fits .objects .0) (object-at l 0) (object-width l) (omega (arith, table-offsets l s .0)) (sizes l .0)
+      ∙ table-full (object-width l * 8) (map (inBytes (object l) .enc) (u .objects)) (n - 0) (length-map (u .objects) (inBytes (object l) .enc) ∙ sym z)
+
+  -- the rows from i on
+  pub rows-part : (i : ℕ) → i ≤ length (u .pending) → midOf (row-at l i * 8) ((length (u .pending) - i) * (row-width l * 8)) b ≡ flat (map (inBytes (row (l .operations)) .enc) (map row-of (drop i (u .pending))))
+  rows-part i low =
+      let n = length (u .pending) in
+      let m = length-map (u .pending) row-of in
+      let c = row (l .operations) in
+      let rs = drop i (map row-of (u .pending)) in
+      table-part (sized-row l s) (rows-field l (sized-objects l s) (sized-rows l s)) known i n (omega arith) (omega arith) (omega (arith, h .fits .rows .0)) (row-at l i) (row-width l) (row-start i) (sizes l .1)
+      ∙ table-full (row-width l * 8) (map (inBytes c .enc) rs) (n - i) (length-map rs (inBytes c .enc) ∙ length-drop i (map row-of (u .pending)) ∙ ap (λ (j : ℕ). j - i) m)
+      ∙ ap (λ (x : List Row). flat (map (inBytes c .enc) x)) (sym (map-drop row-of i (u .pending)))
+    where
+      row-start : (i : ℕ) → rows-field l (sized-objects l s) (sized-rows l s) .at + (1 + i * row (l .operations) .size) ≡ row-at l i
+      row-start i = omega (arith, table-offsets l s .1, ap (λ (w : ℕ). i * w) (sizes l .1))
+
+  -- ---- row i: its cells as a part, and one of them
+
+  module _ (i : ℕ) (k : i < length (u .pending)) (d : Pending) where
+    row-low : i < l .pending
+    row-low = omega (arith, h .fits .rows .0, length-map (u .pending) row-of)
+
+    row-known : With l (ObjectsFit l) (RowThere l i) (record-of u)
+    row-known =
+        (h .fits .timestamp, (h .fits .lasts, (h .fits .readers, (h .fits .objects, (h .fits .rows .0, h .fits .rows .1, omega (arith, length-map (u .pending) row-of))))))
+
+    the-row : getD (map row-of (u .pending)) i (row-of d) ≡ row-of (getD (u .pending) i d)
+    the-row = List·getD-map row-of (u .pending) i d
+
+    pub row-part : midOf (row-at l i * 8) (row-width l * 8) b ≡ uncells (row (l .operations) .enc (row-of (getD (u .pending) i d)))
+    row-part =
+        field-part (row-field l s i row-low (row-of d)) row-known (row-at l i) (row-width l) (row-offset l s i row-low (row-of d)) (sizes l .1)
+        ∙ ap (λ (r : Row). uncells (row (l .operations) .enc r)) the-row
+
+    pub get-row : (j : ℕ) → j < row-width l → getD (cells b) (row-at l i + j) 0 ≡ getD (row (l .operations) .enc (row-of (getD (u .pending) i d))) j 0
+    get-row j low =
+        get-field (row-field l s i row-low (row-of d)) row-known j (omega (arith, sizes l .1)) (row-at l i + j) (omega (arith, row-offset l s i row-low (row-of d)))
+        ∙ ap (λ (r : Row). getD (row (l .operations) .enc r) j 0) the-row

@@ -1,0 +1,25 @@
+-- Rows of one width, end to end in a list of numbers (cells or bytes). Assumes nothing.
+use mathlib.Core.List.{List, [], _∷_, _++_}
+use Prim.Native.Nat.{ℕ, zero, suc, _-_, _*_}
+use lib.ListN.{length, take, drop, replicate}
+
+-- the rows end to end
+unfoldable pub flat : List (List ℕ) → List ℕ
+flat [] = []
+flat (r ∷ rs) = r ++ flat rs
+
+-- n rows of width w from the front of b
+unfoldable pub chunks : ℕ → ℕ → List ℕ → List (List ℕ)
+chunks w zero b = []
+chunks w (suc n) b = take w b ∷ chunks w n (drop w b)
+
+abbrev pub blank : ℕ → List ℕ
+blank n = replicate n 0
+
+-- a table of p places of width w: the rows, then the unused places
+unfoldable pub table : ℕ → ℕ → List (List ℕ) → List ℕ
+table p w rs = flat rs ++ blank ((p - length rs) * w)
+
+-- filled up with zeros to width w
+unfoldable pub padTo : ℕ → List ℕ → List ℕ
+padTo w r = r ++ blank (w - length r)

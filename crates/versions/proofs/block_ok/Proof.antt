@@ -1,0 +1,59 @@
+-- `versions::block_ok` meets its contract: with one version a law for each branch, else by `block_ok_general`.
+use mathlib.Core.Path.{sym}
+use native.Mathlib.Omega.{arith}
+use borrow.Author.Needs.{needs}
+use Rattle.cells.specs.Cells.{cells}
+use Rattle.versions.specs.Steps.{ok-single, ok-single-no}
+use Rattle.versions.proofs.block_ok.Statement.{statement}
+use Rattle.versions.proofs.block_ok.Tie as tie
+
+get-requires : tie.Need-get-requires
+get-requires c κs = search needs
+
+get-requires-2 : tie.Need-get-requires-2
+get-requires-2 c κs = search needs
+
+mul-cells-zero : tie.Need-mul-cells-zero
+mul-cells-zero c = search needs
+
+add-cells-zero : tie.Need-add-cells-zero
+add-cells-zero c = search needs
+
+cells-zero-requires : tie.Need-cells-zero-requires
+cells-zero-requires c κs = search needs
+
+returns : tie.Need-returns
+returns c =
+    let a = c .before .before .before .before .before .before .before .args in
+    let rc = cells (a .snapshots .now) in
+    let k = c .before .before .before .before .get in
+    let f = c .before .before .get2 in
+    sym (ok-single (a .readers) (a .timestamp) rc (a .block .now) (search needs) (k .result) (k .ensures) (omega arith) (omega arith) (f .result) (f .ensures) (search needs) (a .low) (search needs) (search needs) (c .cells-zero .result) (c .cells-zero .ensures))
+
+returns-2 : tie.Need-returns-2
+returns-2 c =
+    let a = c .before .before .before .before .before .before .args in
+    let rc = cells (a .snapshots .now) in
+    let k = c .before .before .before .get in
+    let f = c .before .get2 in
+    sym (ok-single-no (a .readers) (a .timestamp) rc (a .block .now) (search needs) (k .result) (k .ensures) (omega arith) (omega arith) (f .result) (f .ensures) (search needs) (a .low) (search needs) (search needs))
+
+block-ok-general-requires : tie.Need-block-ok-general-requires
+block-ok-general-requires c κs = search needs
+
+returns-3 : tie.Need-returns-3
+returns-3 c = search needs
+
+pub block-ok-spec : {M : Type 1} → statement M
+block-ok-spec =
+    tie.close
+    (tie.spec
+    get-requires
+    get-requires-2
+    mul-cells-zero
+    add-cells-zero
+    cells-zero-requires
+    returns
+    returns-2
+    block-ok-general-requires
+    returns-3)

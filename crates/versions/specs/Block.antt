@@ -1,0 +1,165 @@
+-- Definitions: an object's versions in a block of cells, and the readers' cells. Assumes nothing.
+-- A block: a count, then a stamp and a value for each version, the newest first; unused cells are 0. A reader's cell: 0 closed, else its stamp + 1.
+-- n is the number of readers, m that of objects, rc are the readers' cells, bc the cells of one block, cs those of blocks one after another.
+use mathlib.Core.Path.{_≡_}
+use mathlib.Core.Bool.{Bool, true, cond, _&&_}
+use mathlib.Core.Option.{Option, none, some}
+use mathlib.Core.List.{List, [], _∷_, _++_, map}
+use Prim.Native.Nat.{ℕ, zero, suc, _+_, _*_, _-_, _/_, _<_, _≤_, _^_}
+use lib.Dec.{leb, ltb}
+use lib.ListN.{length, getD, take, drop, set, replicate}
+use mir.Syntax.{w64}
+use mir.Val.{SFits, toZ, ofZ}
+use Rattle.cells.specs.Cells.{cells}
+use Rattle.cells.specs.Zeros.{zeros}
+use Rattle.model.specs.Lists.{any, all}
+use Rattle.model.specs.Serial.{Version}
+use Rattle.model.specs.Replica.{opens}
+use Rattle.model.specs.Shape.{falling}
+use Rattle.model.specs.ShapeCheck.{versions-shaped}
+
+-- ---- what the cells say
+
+-- the cells of a block: one version more than there are readers
+abbrev pub width : ℕ → ℕ
+width n = 3 + 2 * n
+
+abbrev pub version-of : ℕ → ℕ → Version
+version-of s b = record { stamp = s; value = toZ w64 b }
+
+-- k versions, from the front of the cells
+unfoldable pub versions-in : ℕ → List ℕ → List Version
+versions-in zero cs = []
+versions-in (suc k) cs = version-of (getD cs 0 0) (getD cs 1 0) ∷ versions-in k (drop 2 cs)
+
+-- a block's versions
+unfoldable pub held-in : List ℕ → List Version
+held-in bc = versions-in (getD bc 0 0) (drop 1 bc)
+
+abbrev pub reader-of : ℕ → Option ℕ
+reader-of zero = none
+reader-of (suc r) = some r
+
+-- the open readers' stamps
+unfoldable pub stamps : List ℕ → List ℕ
+stamps rc = opens (map reader-of rc)
+
+-- m blocks of w cells, one after another
+abbrev pub chunks : ℕ → ℕ → List ℕ → List (List ℕ)
+chunks w zero cs = []
+chunks w (suc m) cs = take w cs ∷ chunks w m (drop w cs)
+
+-- m objects' versions
+unfoldable pub objects-in : ℕ → ℕ → List ℕ → List (List Version)
+objects-in n m cs = map held-in (chunks (width n) m cs)
+
+-- ---- and back
+
+unfoldable pub flat : List Version → List ℕ
+flat [] = []
+flat (v ∷ vs) = v .stamp ∷ ofZ w64 (v .value) ∷ flat vs
+
+-- the block with these versions
+unfoldable pub block : ℕ → List Version → List ℕ
+block n vs = length vs ∷ (flat vs ++ replicate (2 * (suc n - length vs)) 0)
+
+-- the blocks of objects with these versions
+unfoldable pub laid : ℕ → List (List Version) → List ℕ
+laid n [] = []
+laid n (vs ∷ objs) = block n vs ++ laid n objs
+
+-- versions that cells can hold
+abbrev pub Small : List Version → Type 0
+Small [] = Unit {0}
+Small (v ∷ vs) = SFits w64 (v .value) × (v .stamp < 2 ^ 64) × Small vs
+
+-- ---- the shape check
+
+-- the count within its limit, unused cells 0
+unfoldable pub framed : ℕ → List ℕ → Bool
+framed n bc = leb (getD bc 0 0) (suc n) && zeros (drop (1 + 2 * getD bc 0 0) bc)
+
+-- one object: its frame, and the model's rules on its versions
+unfoldable pub block-ok : ℕ → ℕ → List ℕ → List ℕ → Bool
+block-ok n timestamp rc bc = framed n bc && versions-shaped timestamp (stamps rc) (held-in bc)
+
+-- m objects
+unfoldable pub blocks-ok : ℕ → ℕ → List ℕ → ℕ → List ℕ → Bool
+blocks-ok n timestamp rc m cs = all (block-ok n timestamp rc) (chunks (width n) m cs)
+
+-- what pruning asks of a block: it holds after the check, whatever readers have opened or closed since
+pub record Ordered (n : ℕ) (bc : List ℕ) : Type 0 where
+  pub least : 0 < getD bc 0 0
+  pub frame : framed n bc ≡ true
+  pub order : falling (held-in bc) ≡ true
+
+-- ---- the check in one pass, from the newest version on
+
+-- some open reader's stamp is s or more, and below upper
+unfoldable pub between : List ℕ → ℕ → ℕ → Bool
+between rc s upper = any (λ c. ltb s c && leb c upper) rc
+
+-- the smallest open reader's cell, if it is below top
+abbrev pub lower : ℕ → ℕ → ℕ
+lower top c = cond (ltb 0 c && ltb c top) c top
+
+unfoldable pub lowest : ℕ → List ℕ → ℕ
+lowest top [] = top
+lowest top (c ∷ rc) = lowest (lower top c) rc
+
+-- the versions after one of stamp upper: each is held by a reader that does not see the one before, so that stamps fall, and the last is below low
+unfoldable pub chain : List ℕ → ℕ → ℕ → List Version → Bool
+chain rc low upper [] = ltb upper low
+chain rc low upper (v ∷ vs) = between rc (v .stamp) upper && chain rc low (v .stamp) vs
+
+-- ---- pruning in one pass
+
+-- the versions after one of stamp upper that are held
+unfoldable pub trim : List ℕ → ℕ → List Version → List Version
+trim rc upper [] = []
+trim rc upper (v ∷ vs) = cond (between rc (v .stamp) upper) (v ∷ trim rc (v .stamp) vs) (trim rc (v .stamp) vs)
+
+-- the cells of those of k versions, after one of stamp upper, that are held
+unfoldable pub kept : List ℕ → ℕ → ℕ → List ℕ → List ℕ
+kept rc upper zero cs = []
+kept rc upper (suc k) cs =
+    cond (between rc (getD cs 0 0) upper) (getD cs 0 0 ∷ getD cs 1 0 ∷ kept rc (getD cs 0 0) k (drop 2 cs)) (kept rc (getD cs 0 0) k (drop 2 cs))
+
+-- the front of a block that is rewritten: the cell of the count, the version (s, v), and those kept of the k versions from cell start on
+abbrev pub fronted : List ℕ → List ℕ → ℕ → ℕ → ℕ → ℕ → List ℕ
+fronted rc bc s v start k = take 1 bc ++ (s ∷ v ∷ kept rc s k (drop start bc))
+
+-- the cells of a block whose versions have the cells ws
+unfoldable pub filled : ℕ → List ℕ → List ℕ
+filled n ws = length ws / 2 ∷ (ws ++ replicate (2 * suc n - length ws) 0)
+
+-- ---- what contracts say
+
+-- the areas lent: the readers' cells and one block
+pub record Lent (n : ℕ) (rs bs : List ℕ) : Type 0 where
+  pub reader-cells : length rs ≡ n * 8
+  pub block-cells : length bs ≡ width n * 8
+
+-- the areas lent: the readers' cells and m blocks; so few readers that the length of a block is an address, also where there is none
+pub record Lents (n m : ℕ) (rs bs : List ℕ) : Type 0 where
+  pub reader-cells : length rs ≡ n * 8
+  pub block-cells : length bs ≡ m * (width n * 8)
+  pub few : n < 2 ^ 32
+
+-- what is to be put to the front of a block: one version, and those held of the k versions from cell start on; there is room
+pub record Room (n start k s : ℕ) (rs bs : List ℕ) : Type 0 where
+  pub lent : Lent n rs bs
+  pub behind : 1 ≤ start
+  pub inside : start + 2 * k ≤ width n
+  pub room : length (kept (cells rs) s k (drop start (cells bs))) ≤ 2 * n
+
+-- two cells put
+pub record Pair (xs ys : List ℕ) (j s v : ℕ) : Type 0 where
+  pub pair : cells ys ≡ set (set (cells xs) j s) (j + 1) v
+  pub size : length ys ≡ length xs
+
+-- the version (s, v) and those kept stand at the front, up to cell r
+pub record Kept (rc : List ℕ) (s v start k : ℕ) (xs ys : List ℕ) (r : ℕ) : Type 0 where
+  pub end : r ≡ 3 + length (kept rc s k (drop start (cells xs)))
+  pub front : take r (cells ys) ≡ fronted rc (cells xs) s v start k
+  pub size : length ys ≡ length xs

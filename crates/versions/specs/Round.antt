@@ -1,0 +1,157 @@
+-- Round trips of one block, what pruning leaves alone, and the check on a printed block. Assumes nothing.
+use mathlib.Core.Path.{_≡_, refl, sym, ap, _∙_}
+use mathlib.Core.Bool.{Bool, true, false, cond}
+use mathlib.Core.List.{List, [], _∷_, _++_}
+use Prim.Native.Nat.{ℕ, zero, suc, _+_, _*_, _-_, _^_, _≤_, _<_}
+use native.Mathlib.Omega.{arith}
+use lib.ListN.{length, getD, take, drop, replicate, length-append, length-replicate, length-drop, take-append-drop}
+use lib.Seq.{drop-at, drop-drop}
+use mir.ValLaws.{toZ-fits}
+use mir.Facts.{toZ-ofZ, ofZ-toZ, fits-ofZ}
+use borrow.Author.Tests.{le-leb, eq-eqb}
+use Rattle.execution.specs.Agreement.{both}
+use Rattle.cells.specs.Cells.{cells, uncells, Below}
+use Rattle.cells.specs.Laws.{length-cells-whole, below-drop, below-zeros, cells-uncells, cells-below, uncells-cells}
+use Rattle.cells.specs.Zeros.{zeros-replicate, zeros-true}
+use Rattle.model.specs.Lists.{keep, all}
+use Rattle.model.specs.Serial.{Version}
+use Rattle.model.specs.Replica.{held, prune}
+use Rattle.model.specs.ShapeCheck.{versions-shaped}
+use Rattle.versions.specs.Block.{width, versions-in, stamps, held-in, flat, block, Small, framed, block-ok, Ordered}
+use Rattle.versions.specs.Print.{length-flat, fit, count-few, unused-zero, ok-versions}
+
+-- ---- parse after print
+
+small-versions : (k : ℕ) (cs : List ℕ) → Below (2 ^ 64) cs → Small (versions-in k cs)
+unfolding versions-in
+small-versions zero cs h = tt
+small-versions (suc k) cs h = (toZ-fits _ (getD cs 1 0) (fit (h 1)), h 0, small-versions k (drop 2 cs) (below-drop (2 ^ 64) 2 cs h))
+
+-- what a block's cells say, they can hold
+pub small-held : (bc : List ℕ) → Below (2 ^ 64) bc → Small (held-in bc)
+unfolding held-in
+small-held bc h = small-versions (getD bc 0 0) (drop 1 bc) (below-drop (2 ^ 64) 1 bc h)
+
+pub small-prune : (rs : List ℕ) (vs : List Version) → Small vs → Small (prune rs vs)
+unfolding prune
+small-prune rs vs h = small-keep (held rs vs) vs h
+  where
+    small-keep : (q : Version → Bool) (vs : List Version) → Small vs → Small (keep q vs)
+    small-keep q [] h = tt
+    small-keep q (v ∷ vs) h = go′ (q v) (small-keep q vs (h .2))
+      where
+        go′ : (b : Bool) → Small (keep q vs) → Small (cond b (v ∷ keep q vs) (keep q vs))
+        go′ true i = (h .0, h .1, i)
+        go′ false i = i
+
+versions-flat : (vs : List Version) (ts : List ℕ) → Small vs → versions-in (length vs) (flat vs ++ ts) ≡ vs
+unfolding versions-in flat
+versions-flat [] ts h = refl
+versions-flat (v ∷ vs) ts h = rw (toZ-ofZ (h .0), versions-flat vs ts (h .2))
+
+pub held-block : (n : ℕ) (vs : List Version) → Small vs → held-in (block n vs) ≡ vs
+unfolding held-in block
+held-block n vs h = versions-flat vs (replicate (2 * (suc n - length vs)) 0) h
+
+pub length-block : (n : ℕ) (vs : List Version) → length vs ≤ suc n → length (block n vs) ≡ width n
+unfolding block
+length-block n vs h =
+    let z : ℕ = 0 in
+    rw (length-append, length-replicate (2 * (suc n - length vs)) z, length-flat vs) (omega arith)
+
+-- the cells of a printed block are below 2 ^ 64
+below-flat : (vs : List Version) (ts : List ℕ) → Small vs → Below (2 ^ 64) ts → Below (2 ^ 64) (flat vs ++ ts)
+unfolding flat
+below-flat [] ts h b i = b i
+below-flat (v ∷ vs) ts h b zero = h .1
+below-flat (v ∷ vs) ts h b (suc zero) = fits-ofZ (h .0) .fits
+below-flat (v ∷ vs) ts h b (suc (suc i)) = below-flat vs ts (h .2) b i
+
+pub below-block : (n : ℕ) (vs : List Version) → Small vs → length vs < 2 ^ 64 → Below (2 ^ 64) (block n vs)
+unfolding block
+below-block n vs h l zero = l
+below-block n vs h l (suc i) =
+    below-flat vs (replicate (2 * (suc n - length vs)) 0) h (below-zeros (2 ^ 64) (2 * (suc n - length vs)) (omega arith)) i
+
+-- what a block says after a call that ensures its bytes outright
+pub parsed : (n : ℕ) (vs : List Version) (ys : List ℕ) → Small vs → length vs < 2 ^ 64 → ys ≡ uncells (block n vs) → held-in (cells ys) ≡ vs
+parsed n vs ys h l e = ap held-in (ap cells e ∙ cells-uncells (block n vs) (below-block n vs h l)) ∙ held-block n vs h
+
+-- ---- the check on a printed block
+
+count-block : (n : ℕ) (vs : List Version) → getD (block n vs) 0 0 ≡ length vs
+unfolding block
+count-block n vs = refl
+
+unused-block : (n : ℕ) (vs : List Version) → drop (1 + 2 * length vs) (block n vs) ≡ replicate (2 * (suc n - length vs)) 0
+unfolding block
+unused-block n vs =
+    let e : 1 + 2 * length vs ≡ suc (2 * length vs) = omega arith in
+    rw e (drop-at (flat vs) (replicate (2 * (suc n - length vs)) 0) (2 * length vs) (length-flat vs))
+
+pub framed-block : (n : ℕ) (vs : List Version) → length vs ≤ suc n → framed n (block n vs) ≡ true
+unfolding framed
+framed-block n vs l = rw (count-block n vs, unused-block n vs, zeros-replicate (2 * (suc n - length vs)), le-leb (length vs) (suc n) l)
+
+pub ok-block : (n timestamp : ℕ) (rc : List ℕ) (vs : List Version) → Small vs → length vs ≤ suc n → block-ok n timestamp rc (block n vs) ≡ versions-shaped timestamp (stamps rc) vs
+unfolding block-ok
+ok-block n timestamp rc vs h l = rw (held-block n vs h, framed-block n vs l)
+
+-- ---- print after parse
+
+flat-versions : (k : ℕ) (cs : List ℕ) → Below (2 ^ 64) cs → 2 * k ≤ length cs → flat (versions-in k cs) ≡ take (2 * k) cs
+unfolding flat versions-in
+flat-versions zero cs b h = refl
+flat-versions (suc k) [] b h = absurd (omega arith)
+flat-versions (suc k) (x ∷ []) b h = absurd (omega arith)
+flat-versions (suc k) (x ∷ y ∷ cs) b h =
+    let e : 2 * suc k ≡ suc (suc (2 * k)) = omega arith in
+    rw (e, ofZ-toZ (fit (b 1)), flat-versions k cs (λ i. b (suc (suc i))) (omega arith))
+
+length-versions : (k : ℕ) (cs : List ℕ) → length (versions-in k cs) ≡ k
+unfolding versions-in
+length-versions zero cs = refl
+length-versions (suc k) cs = ap suc (length-versions k (drop 2 cs))
+
+-- the count says how many versions a block has
+pub length-held : (bc : List ℕ) → length (held-in bc) ≡ getD bc 0 0
+unfolding held-in
+length-held bc = length-versions (getD bc 0 0) (drop 1 bc)
+
+pub block-held : (n : ℕ) (bc : List ℕ) → length bc ≡ width n → Below (2 ^ 64) bc → framed n bc ≡ true → block n (held-in bc) ≡ bc
+unfolding block held-in
+block-held n bc l b f =
+    let k : ℕ = getD bc 0 0 in
+    let q : k ≤ n + 1 = count-few n bc f in
+    let d : length (drop (1 + 2 * k) bc) ≡ 2 * (suc n - k) = length-drop (1 + 2 * k) bc ∙ omega arith in
+    let t : replicate (2 * (suc n - k)) 0 ≡ drop (2 * k) (drop 1 bc) = sym (drop-drop (2 * k) 1 bc ∙ zeros-true (drop (1 + 2 * k) bc) (unused-zero n bc f) ∙ ap (λ (m : ℕ). replicate m 0) d) in
+    let w : 2 * k ≤ length (drop 1 bc) = rw length-drop (omega arith) in
+    rw (length-versions k (drop 1 bc), flat-versions k (drop 1 bc) (below-drop (2 ^ 64) 1 bc b) w, t, take-append-drop (2 * k) (drop 1 bc)) (head bc (omega arith))
+  where
+    head : (cs : List ℕ) → 0 < length cs → getD cs 0 0 ∷ drop 1 cs ≡ cs
+    head [] h = absurd (omega arith)
+    head (c ∷ cs) h = refl
+
+-- ---- what pruning leaves alone
+
+-- one version is kept, whoever reads
+single : (rs : List ℕ) (bc : List ℕ) → getD bc 0 0 ≡ 1 → prune rs (held-in bc) ≡ held-in bc
+unfolding held-in versions-in prune held
+single rs bc e = rw (e, eq-eqb (getD (drop 1 bc) 0 0) (getD (drop 1 bc) 0 0) refl)
+
+pub prune-single : (n : ℕ) (rs : List ℕ) (xs : List ℕ) → Below 256 xs → length xs ≡ width n * 8 → Ordered n (cells xs) → getD (cells xs) 0 0 ≤ 1 → xs ≡ uncells (block n (prune rs (held-in (cells xs))))
+prune-single n rs xs b l o h =
+    let e : getD (cells xs) 0 0 ≡ 1 = omega (arith, o .least) in
+    sym
+    (ap (λ (vs : List Version). uncells (block n vs)) (single rs (cells xs) e)
+    ∙ ap uncells (block-held n (cells xs) (length-cells-whole (width n) xs l) (cells-below xs b) (o .frame))
+    ∙ uncells-cells xs (width n) b l)
+
+-- a block that passes the check: a commit touches only the objects that are stored
+pub prune-same : (n timestamp : ℕ) (rc bc : List ℕ) → block-ok n timestamp rc bc ≡ true → prune (stamps rc) (held-in bc) ≡ held-in bc
+unfolding prune
+prune-same n timestamp rc bc ok = keep-all (held (stamps rc) (held-in bc)) (held-in bc) (ok-versions n timestamp rc bc ok .each)
+  where
+    keep-all : (q : Version → Bool) (vs : List Version) → all q vs ≡ true → keep q vs ≡ vs
+    keep-all q [] h = refl
+    keep-all q (v ∷ vs) h = let k = both (q v) (all q vs) h in rw (k .0, keep-all q vs (k .1))
