@@ -16,6 +16,7 @@ ghost use Rattle.execution.specs.Shape.{every, sound};
 ghost use Rattle.execution.specs.Arrays.{capacity, entries, runOf, Room, Kept, Found, advanced, stopped, settled, Executes, Held};
 
 // How far a run has come: its program counter and outcome, and how many entries its read set and write set have.
+// The read set's objects and values stand in the arrays ro and rv, the write set's in wo and wv.
 pub struct Counts {
     pub counter: usize,
     pub outcome: usize,
@@ -120,7 +121,7 @@ fn load<'a>(
     }
 }
 
-// The last value given to an object stands in its first place.
+// An object stored again keeps its place and takes the new value.
 fn store(
     registers: &[i64; 4],
     wo: &mut [usize; 16],
@@ -194,7 +195,8 @@ pub struct Executed {
     pub used: usize,
 }
 
-// At most `budget` operations of a run that has not stopped.
+// At most `budget` operations of a run that has not stopped. The loop breaks with the outcome: 0 at the end of the body or the budget,
+// 1 at a fail, 2 at an overflow.
 pub fn execute(
     table: &[i64],
     body: &[u8],

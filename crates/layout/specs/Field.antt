@@ -37,9 +37,11 @@ put-put a n o k b m h f =
     rw (append-assoc, append-assoc, e, take-take o n d (omega arith), ← append-assoc (take a b), ← take-add a o b, drop-drop o a b)
 
 -- ---- fields
+
 pub narrow : {A : Type 0} {c : Codec A} {P Q : A → Type 0} → Sized c P → ((a : A) → Q a → P a) → Sized c Q
 narrow u f = record { len = λ a h. u .len a (f a h) }
 
+-- a field of the values that P holds of: where its numbers lie, which part of the value it is, and what to read and to write them does
 pub record Field {A B : Type 0} (c : Codec A) (P : A → Type 0) (f : Codec B) (Q : B → Type 0) : Type 0 where
   pub at : ℕ
   pub get : A → B

@@ -22,10 +22,12 @@ use Rattle.layout.specs.Codec.{Codec, cell, pair, via, rows, counted, pa
 
 -- K holds of each number of a block, as "below 256" of bytes; Good values are those that can be written
 pub record Lawful (K : ℕ → Type 0) {A : Type 0} (c : Codec A) (Good : A → Type 0) : Type 0 where
+  -- what is written: its length and its numbers; it is read back, and passes the check
   pub len : (a : A) → Good a → length (c .enc a) ≡ c .size
   pub small : (a : A) → Good a → All K (c .enc a)
   pub back : (a : A) → Good a → c .dec (c .enc a) ≡ a
   pub okay : (a : A) → Good a → c .ok (c .enc a) ≡ true
+  -- a block that passes the check is written back, and its value can be written
   pub forth : (b : List ℕ) → length b ≡ c .size → All K b → c .ok b ≡ true → c .enc (c .dec b) ≡ b
   pub good : (b : List ℕ) → length b ≡ c .size → All K b → c .ok b ≡ true → Good (c .dec b)
 

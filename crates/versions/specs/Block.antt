@@ -141,7 +141,7 @@ pub record Lent (n : ℕ) (rs bs : List ℕ) : Type 0 where
   pub block-cells : length bs ≡ width n * 8
 
 -- the areas lent: the readers' cells and m blocks; so few readers that the length of a block is an address, also where there is none
-pub record Lents (n m : ℕ) (rs bs : List ℕ) : Type 0 where
+pub record LentBlocks (n m : ℕ) (rs bs : List ℕ) : Type 0 where
   pub reader-cells : length rs ≡ n * 8
   pub block-cells : length bs ≡ m * (width n * 8)
   pub few : n < 2 ^ 32

@@ -15,7 +15,7 @@ ghost use Rattle.cells.specs.Cells.{cells, uncells};
 ghost use Rattle.cells.specs.Zeros.{zeros};
 ghost use Rattle.model.specs.ListLaws.{All};
 ghost use Rattle.model.specs.Replica.{newest, as-of, prune, pushed};
-ghost use Rattle.versions.specs.Block.{width, versions-in, held-in, stamps, chunks, objects-in, block as block-of, laid, block-ok, blocks-ok, Ordered, between, lower, lowest, chain, kept, filled, Lent, Lents, Room, Pair, Kept};
+ghost use Rattle.versions.specs.Block.{width, versions-in, held-in, stamps, chunks, objects-in, block as block-of, laid, block-ok, blocks-ok, Ordered, between, lower, lowest, chain, kept, filled, Lent, LentBlocks, Room, Pair, Kept};
 
 // Is c an open reader's cell whose stamp is s or more, and below upper?
 fn inside(c: u64, s: u64, upper: u64) -> bool
@@ -39,6 +39,7 @@ fn some_between(snapshots: &[u8], readers: usize, s: u64, upper: u64) -> bool
     false
 }
 
+// c where it is an open reader's cell below top, else top.
 fn lower_of(top: u64, c: u64) -> u64
     ensures { λ r. ⌜ r ≡ lower top c ⌝ }
 {
@@ -142,7 +143,7 @@ pub fn block_ok(block: &[u8], snapshots: &[u8], readers: usize, timestamp: u64, 
 
 // The same on n objects, whose blocks stand one after another.
 pub fn objects_ok(blocks: &[u8], snapshots: &[u8], readers: usize, n: usize, timestamp: u64) -> bool
-    requires { ⌜ Lents readers n (now snapshots) (now blocks) × (timestamp < 2 ^ 63) ⌝ }
+    requires { ⌜ LentBlocks readers n (now snapshots) (now blocks) × (timestamp < 2 ^ 63) ⌝ }
     ensures { λ r. ⌜ r ≡ blocks-ok readers timestamp (cells (now (snapshots .entry))) n (cells (now (blocks .entry))) ⌝ }
 {
     let low = lowest_open(snapshots, readers, timestamp + 1);
@@ -289,7 +290,7 @@ pub fn prune_block(block: &mut [u8], snapshots: &[u8], readers: usize)
 
 // The same on n objects, whose blocks stand one after another.
 pub fn prune_objects(blocks: &mut [u8], snapshots: &[u8], readers: usize, n: usize)
-    requires { ⌜ Lents readers n (now snapshots) (now blocks) × All (Ordered readers) (chunks (width readers) n (cells (now blocks))) ⌝ }
+    requires { ⌜ LentBlocks readers n (now snapshots) (now blocks) × All (Ordered readers) (chunks (width readers) n (cells (now blocks))) ⌝ }
     ensures { λ _. ⌜ now (blocks .exit) ≡ uncells (laid readers (map (prune (stamps (cells (now (snapshots .entry))))) (objects-in readers n (cells (now (blocks .entry)))))) ⌝ }
 {
     let w = (3 + 2 * readers) * 8;

@@ -1,0 +1,41 @@
+// Opening: both lent areas are filled, whatever they held, with the replica of the start values and the start timestamp.
+use model::Limits;
+ghost use mathlib.Core.Path.{_≡_};
+ghost use Rattle.model.specs.Replica.{opened};
+ghost use Rattle.layout.specs.Layout.{print};
+ghost use Rattle.opening.specs.Opening.{Lent, Blank, Started};
+
+// Writes each object's one version to its block; the blocks are zeros.
+fn put_objects(blocks: &mut [u8], readers: usize, values: &[i64], timestamp: u64)
+    requires { ⌜ Blank readers (now blocks) (now values) ⌝ }
+    ensures { λ _. ⌜ Started readers timestamp (now (values .entry)) (now (blocks .exit)) ⌝ }
+{
+    let width = 3 + 2 * readers;
+    let mut at = 0;
+    let mut i = 0;
+    while i < values.len() {
+        cells::put(blocks, at, 1);
+        cells::put(blocks, at + 1, timestamp);
+        cells::put_signed(blocks, at + 2, values[i]);
+        at += width;
+        i += 1;
+    }
+}
+
+// One zero fill of each area, then the cells that are not 0.
+pub fn fill(records: &mut [u8], bodies: &mut [u8], l: Limits, values: &[i64], timestamp: u32)
+    requires { ⌜ Lent l (now records) (now bodies) (now values) ⌝ }
+    ensures { λ _. ⌜ (now (records .exit), now (bodies .exit)) ≡ print l (opened l (now (values .entry)) timestamp) ⌝ }
+{
+    let records_end = records.len();
+    cells::fill_zero(records, 0, records_end);
+    let bodies_end = bodies.len();
+    cells::fill_zero(bodies, 0, bodies_end);
+    let t = timestamp as u64;
+    let n = values.len();
+    let first = layout::object_at(l, 0) * 8;
+    let end = layout::object_at(l, n) * 8;
+    put_objects(&mut records[first..end], l.readers, values, t);
+    cells::put(records, 17 + l.readers, n as u64);
+    cells::put(records, 0, t);
+}

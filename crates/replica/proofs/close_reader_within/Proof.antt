@@ -1,0 +1,46 @@
+-- `replica::close_reader_within` meets its contract: the check, then `snapshots::close_reader`, which leaves the bodies alone. Assumes nothing.
+use mathlib.Core.Path.{_≡_, refl, sym, ap, _∙_}
+use denote.Ref.{now}
+use borrow.Author.Needs.{needs}
+use Rattle.model.specs.Calls.{close-reader}
+use Rattle.model.specs.Answers.{reply}
+use Rattle.layout.specs.Layout.{parse}
+use Rattle.replica.specs.Contract.{passed, met-unfit, met-record, close-reader-bodies}
+use Rattle.replica.proofs.close_reader_within.Statement.{statement}
+use Rattle.replica.proofs.close_reader_within.Tie as tie
+
+check-requires : tie.Need-check-requires
+check-requires c κs = search needs
+
+close-reader-requires : tie.Need-close-reader-requires
+close-reader-requires c κs =
+    let s = c .before .before .before .before .before .before in
+    let a = s .args in
+    let f = sym (c .before .before .check .ensures) ∙ c .before .if1 .taken in
+    let q = passed (a .l) (s .pre .sane) (now (a .records), now (a .bodies)) (λ i. c .before .before .before .before .before .slice-known .given i .fits) f in
+    (record { sane = s .pre .sane; replica = parse (a .l) (now (a .records), now (a .bodies)); holds = q .holds; shape = q .shape }, record { readers = s .pre .readers })
+
+same-length : tie.Need-same-length
+same-length c = search needs
+
+returns : tie.Need-returns
+returns c =
+    let s = c .before .before .before .before .before .before .before .before .before in
+    let a = s .args in
+    let f = sym (c .before .before .before .before .before .check .ensures) ∙ c .before .before .before .before .if1 .taken in
+    let q = passed (a .l) (s .pre .sane) (now (a .records), now (a .bodies)) (λ i. c .before .before .before .before .before .before .before .before .slice-known .given i .fits) f in
+    let u = parse (a .l) (now (a .records), now (a .bodies)) in
+    let k = c .before .before .close-reader .ensures u (q .holds) (q .shape) in
+    met-record (a .l) (s .pre .sane) (now (a .records), now (a .bodies)) (λ i. c .before .before .before .before .before .before .before .before .slice-known .given i .fits) f (close-reader (a .reader)) _ (reply (c .before .before .close-reader .result))
+    (close-reader-bodies (a .l) u (a .reader)) (k .answer) (k .after)
+
+same-length-2 : tie.Need-same-length-2
+same-length-2 c = search needs
+
+returns-2 : tie.Need-returns-2
+returns-2 c =
+    let a = c .before .before .before .before .before .args in
+    met-unfit (a .l) (close-reader (a .reader)) (now (a .records), now (a .bodies)) (sym (c .before .check .ensures) ∙ c .if1 .left)
+
+pub close-reader-within-spec : {M : Type 1} → statement M
+close-reader-within-spec = tie.close (tie.spec check-requires close-reader-requires same-length returns same-length-2 returns-2)

@@ -1,0 +1,21 @@
+-- `replica::deliver_optimistic` meets its contract: it is `deliver_optimistic_within` at the standard limits. Assumes nothing.
+use borrow.Author.Needs.{needs}
+use Rattle.model.specs.Limits.{standard}
+use Rattle.replica.proofs.deliver_optimistic.Statement.{statement}
+use Rattle.replica.proofs.deliver_optimistic.Tie as tie
+
+deliver-optimistic-within-requires : tie.Need-deliver-optimistic-within-requires
+deliver-optimistic-within-requires c κs = search needs
+
+same-length : tie.Need-same-length
+same-length c = search needs
+
+same-length-2 : tie.Need-same-length-2
+same-length-2 c = search needs
+
+returns : tie.Need-returns
+unfolding standard
+returns c = c .before .before .before .before .deliver-optimistic-within .ensures
+
+pub deliver-optimistic-spec : {M : Type 1} → statement M
+deliver-optimistic-spec = tie.close (tie.spec deliver-optimistic-within-requires same-length same-length-2 returns)

@@ -1,0 +1,22 @@
+-- `replica::open` meets its contract: it is `open_within` at the standard limits. Assumes nothing.
+use borrow.Author.Needs.{needs}
+use native.Mathlib.Omega.{arith}
+use Rattle.model.specs.Limits.{standard}
+use Rattle.replica.proofs.open.Statement.{statement}
+use Rattle.replica.proofs.open.Tie as tie
+
+open-within-requires : tie.Need-open-within-requires
+open-within-requires c κs = search needs
+
+same-length : tie.Need-same-length
+same-length c = search needs
+
+same-length-2 : tie.Need-same-length-2
+same-length-2 c = search needs
+
+returns : tie.Need-returns
+unfolding standard
+returns c = c .before .before .before .before .open-within .ensures
+
+pub open-spec : {M : Type 1} → statement M
+open-spec = tie.close (tie.spec open-within-requires same-length same-length-2 returns)

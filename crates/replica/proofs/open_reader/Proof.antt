@@ -1,0 +1,18 @@
+-- `replica::open_reader` meets its contract: it is `open_reader_within` at the standard limits. Assumes nothing.
+use borrow.Author.Needs.{needs}
+use Rattle.model.specs.Limits.{standard}
+use Rattle.replica.proofs.open_reader.Statement.{statement}
+use Rattle.replica.proofs.open_reader.Tie as tie
+
+open-reader-within-requires : tie.Need-open-reader-within-requires
+open-reader-within-requires c κs = search needs
+
+same-length : tie.Need-same-length
+same-length c = search needs
+
+returns : tie.Need-returns
+unfolding standard
+returns c = c .before .before .open-reader-within .ensures
+
+pub open-reader-spec : {M : Type 1} → statement M
+open-reader-spec = tie.close (tie.spec open-reader-within-requires same-length returns)

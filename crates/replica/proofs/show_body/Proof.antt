@@ -1,0 +1,15 @@
+-- `replica::show_body` meets its contract: it is `show_body_within` at the standard limits. Assumes nothing.
+use borrow.Author.Needs.{needs}
+use Rattle.model.specs.Limits.{standard}
+use Rattle.replica.proofs.show_body.Statement.{statement}
+use Rattle.replica.proofs.show_body.Tie as tie
+
+show-body-within-requires : tie.Need-show-body-within-requires
+show-body-within-requires c κs = search needs
+
+returns : tie.Need-returns
+unfolding standard
+returns c = c .show-body-within .ensures
+
+pub show-body-spec : {M : Type 1} → statement M
+show-body-spec = tie.close (tie.spec show-body-within-requires returns)

@@ -1,0 +1,7 @@
+-- RowRun: what a row's cells say of its run. Committed: the committed state as a list. The others: laws that the proofs of the code and its callers cite.
+pub mod RowRun
+pub mod Listed
+pub mod Loading
+pub mod Storing
+pub mod Ended
+pub mod Committed

@@ -1,0 +1,70 @@
+-- What the cells of one row say of its run, and what the code asks of a row. A row: key, program counter, outcome, registers, number of reads,
+-- number of reads and writes, entries. Assumes nothing.
+use mathlib.Core.Path.{_≡_}
+use mathlib.Core.List.{List, _∷_, _++_, map}
+use Prim.Native.Nat.{ℕ, _+_, _-_, _*_, _≤_}
+use lib.IntN.{ℤ}
+use lib.ListN.{length, getD, set, take, drop}
+use mir.Syntax.{w64}
+use mir.Val.{toZ, ofZ}
+use Rattle.cells.specs.Cells.{cells, uncells}
+use Rattle.operation.specs.Body.{registerCount, listed}
+use Rattle.execution.specs.declared.Counts.{Counts}
+use Rattle.execution.specs.Entries.{Entry, entry}
+use Rattle.execution.specs.Run.{Run, register}
+use Rattle.execution.specs.Arrays.{capacity, runOf, Room}
+use Rattle.layout.specs.Rows.{flat}
+use Rattle.layout.specs.Layout.{run, entry as entry-codec}
+use Rattle.layout.specs.Offsets.{counter-at, outcome-at, register-at, reads-at, entries-at, entry-at}
+
+abbrev pub entry-in : List ℕ → ℕ → Entry
+entry-in cs i = entry (getD cs (entry-at i) 0) (toZ w64 (getD cs (entry-at i + 1) 0))
+
+-- n entries, from entry `from` on
+unfoldable pub entries-in : List ℕ → ℕ → ℕ → List Entry
+entries-in cs from n = listed (λ i. entry-in cs (from + i)) n
+
+unfoldable pub registers-in : List ℕ → List ℤ
+registers-in cs = listed (λ r. toZ w64 (getD cs (register-at r) 0)) registerCount
+
+-- the run of a row
+abbrev pub run-in : List ℕ → Run
+run-in cs =
+    record {
+      counter = getD cs counter-at 0;
+      outcome = getD cs outcome-at 0;
+      registers = registers-in cs;
+      reads = entries-in cs 0 (getD cs reads-at 0);
+      writes = entries-in cs (getD cs reads-at 0) (getD cs entries-at 0 - getD cs reads-at 0);
+    }
+
+-- a row whose entries the lent arrays can take, and which has them all
+pub record Readable (bs : List ℕ) : Type 0 where
+  pub reads : getD (cells bs) reads-at 0 ≤ getD (cells bs) entries-at 0
+  pub few : getD (cells bs) entries-at 0 ≤ capacity
+  pub long : (9 + 2 * getD (cells bs) entries-at 0) * 8 ≤ length bs
+
+-- the run of a row stands in these counts and arrays
+pub record Loaded (cs : List ℕ) (t : Counts) (g : List ℤ) (ro : List ℕ) (rv : List ℤ) (wo : List ℕ) (wv : List ℤ) : Type 0 where
+  pub run : runOf t g ro rv wo wv ≡ run-in cs
+  pub registers : length g ≡ registerCount
+  pub read-room : Room ro rv
+  pub write-room : Room wo wv
+
+-- ---- and back
+
+-- the four registers stored
+abbrev pub registers-set : List ℕ → List ℤ → List ℕ
+registers-set cs g = set (set (set (set cs 3 (ofZ w64 (register g 0))) 4 (ofZ w64 (register g 1))) 5 (ofZ w64 (register g 2))) 6 (ofZ w64 (register g 3))
+
+-- all that stands before the entries, but the key
+abbrev pub fronted : Counts → List ℤ → List ℕ → List ℕ
+fronted t g cs = take 1 cs ++ (t .counter ∷ t .outcome ∷ (map (ofZ w64) g ++ (t .reads ∷ (t .reads + t .writes) ∷ drop 9 cs)))
+
+-- the cells of entries
+unfoldable pub entry-cells : List Entry → List ℕ
+entry-cells es = flat (map (entry-codec .enc) es)
+
+-- the row ys: its key as it was, and the run in these counts and arrays
+pub record Stored (t : Counts) (g : List ℤ) (ro : List ℕ) (rv : List ℤ) (wo : List ℕ) (wv : List ℤ) (xs ys : List ℕ) : Type 0 where
+  pub whole : (m : ℕ) → length xs ≡ (9 + 2 * m) * 8 → ys ≡ take 8 xs ++ uncells (run m .enc (runOf t g ro rv wo wv))

@@ -1,0 +1,20 @@
+-- `shape::key_ok` meets its contract: a law for each answer.
+use mathlib.Core.Path.{sym}
+use borrow.Author.Needs.{needs}
+use Rattle.cells.specs.Cells.{cells}
+use Rattle.shape.specs.Steps.{key-high, key-low}
+use Rattle.shape.proofs.key_ok.Statement.{statement}
+use Rattle.shape.proofs.key_ok.Tie as tie
+
+returns : tie.Need-returns
+returns c = let a = c .before .before .args in sym (key-high (cells (a .lasts .now)) (a .key) (c .if1 .taken))
+
+get-requires : tie.Need-get-requires
+get-requires c κs = search needs
+
+returns-2 : tie.Need-returns-2
+returns-2 c = let a = c .before .before .before .args in
+    key-low (cells (a .lasts .now)) (a .key) (c .before .if1 .left) (c .get .result) (c .get .ensures)
+
+pub key-ok-spec : {M : Type 1} → statement M
+key-ok-spec = tie.close (tie.spec returns get-requires returns-2)

@@ -1,0 +1,10 @@
+pub mod Scan
+pub mod Lent
+pub mod Steps
+pub mod Walk
+pub mod Parts
+pub mod Leaves
+pub mod Runs
+pub mod Table
+pub mod Objects
+pub mod Whole

@@ -1,0 +1,79 @@
+// The readers' calls on a lent record area that passed the shape check: a reader ("snapshot") takes the current timestamp when it is opened,
+// reads each object as of that timestamp, and is closed, whereupon the versions that it alone held go.
+use model::Limits;
+use model::Reading;
+use model::Reply;
+ghost use Rattle.model.specs.Answers.{reply, reading};
+ghost use Rattle.model.specs.Calls.{open-reader, read as read-call, close-reader};
+ghost use Rattle.snapshots.specs.Answers.{Held, Called, Prunable, Pruned, Few};
+
+pub fn open_reader(records: &mut [u8], l: Limits, reader: u32) -> Reply
+    requires { ⌜ Held l (now records) ⌝ }
+    ensures { λ r. ⌜ Called l (open-reader reader) (now (records .entry)) (now (records .exit)) (reply r) ⌝ }
+{
+    let r = reader as usize;
+    if l.readers <= r {
+        return Reply::Refused(10);
+    }
+    if 0 < cells::get(records, 17 + r) {
+        return Reply::Refused(11);
+    }
+    let timestamp = cells::get(records, 0);
+    cells::put(records, 17 + r, timestamp + 1);
+    Reply::Done
+}
+
+pub fn read(records: &[u8], l: Limits, reader: u32, object: u32) -> Reading
+    requires { ⌜ Held l (now records) ⌝ }
+    ensures { λ r. ⌜ Called l (read-call reader object) (now (records .entry)) (now (records .entry)) (reading r) ⌝ }
+{
+    let r = reader as usize;
+    if l.readers <= r {
+        return Reading::Refused(10);
+    }
+    let cell = cells::get(records, 17 + r);
+    if cell == 0 {
+        return Reading::Refused(12);
+    }
+    let o = object as usize;
+    if cells::get(records, 17 + l.readers) as usize <= o {
+        return Reading::Refused(13);
+    }
+    let first = layout::object_at(l, o) * 8;
+    let end = layout::object_at(l, o + 1) * 8;
+    Reading::Value(versions::lookup(&records[first..end], cell - 1))
+}
+
+// The versions that no open reader holds go. Pruning takes the readers' cells beside the objects' blocks, and two parts of one area cannot be
+// lent at once where one of them is written: snapshots is room for a copy of the cells.
+fn prune(records: &mut [u8], l: Limits, snapshots: &mut [u8])
+    requires { ⌜ Prunable l (now records) (now snapshots) ⌝ }
+    ensures { λ _. ⌜ Pruned l (now (records .entry)) (now (records .exit)) ⌝ }
+{
+    let readers = l.readers;
+    bytes::copy(&records[136..136 + readers * 8], snapshots);
+    let n = cells::get(records, 17 + readers) as usize;
+    let first = layout::object_at(l, 0) * 8;
+    let end = layout::object_at(l, n) * 8;
+    versions::prune_objects(&mut records[first..end], snapshots, readers, n);
+}
+
+pub fn close_reader(records: &mut [u8], l: Limits, reader: u32) -> Reply
+    requires { ⌜ Held l (now records) ⌝ }
+    requires { ⌜ Few l ⌝ }
+    ensures { λ r. ⌜ Called l (close-reader reader) (now (records .entry)) (now (records .exit)) (reply r) ⌝ }
+{
+    let r = reader as usize;
+    if l.readers <= r {
+        return Reply::Refused(10);
+    }
+    if cells::get(records, 17 + r) == 0 {
+        return Reply::Refused(12);
+    }
+    cells::put(records, 17 + r, 0);
+    // room for the cells of 64 readers: `Few` asks that there are no more
+    let mut snapshots = [0u8; 512];
+    let end = l.readers * 8;
+    prune(records, l, &mut snapshots[0..end]);
+    Reply::Done
+}
