@@ -1,3 +1,4 @@
+-- Scan: the check as the code goes, in one pass. Whole: it is the shape check of the definitions. Lent: what contracts say. The others: laws.
 pub mod Scan
 pub mod Lent
 pub mod Steps

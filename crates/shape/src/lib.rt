@@ -104,7 +104,7 @@ fn body_ok(place: &[u8], most: usize, n: usize) -> bool
     cells::all_zero(place, end, place.len())
 }
 
-// The entries of a row: reads, then writes, both together named both, and zeros behind them.
+// The entries of a row: so many reads, then writes, so many of both, and zeros behind them.
 fn sets_ok(row: &[u8], most: usize, n: u64, reads: usize, both: usize) -> bool
     requires { ⌜ (length (now row) ≡ cells-of most * 8) × (reads ≤ both) × (both ≤ most) ⌝ }
     ensures { λ r. ⌜ r ≡ sets-in n reads both (cells (now (row .entry))) ⌝ }
@@ -217,7 +217,7 @@ fn is_finished(rows: &[u8], place: &[u8]) -> bool
     }
 }
 
-// The first count rows, each with the place of its body. finished says whether all before are finished.
+// The first count rows, each with the place of its body.
 fn rows_ok(rows: &[u8], places: &[u8], lasts: &[u8], most: usize, n: usize, count: usize) -> bool
     requires { ⌜ Rows most count (now rows) (now lasts) × (count * place-of most ≤ length (now places)) ⌝ }
     ensures { λ r. ⌜ r ≡ rows-in most n (cells (now (lasts .entry))) true count (cells (now (rows .entry))) (now (places .entry)) ⌝ }
