@@ -21,7 +21,7 @@ use Rattle.layout.specs.Areas.{act-unfit, act-fit}
 pub record Supported (l : Limits) : Type 0 where
   pub sane : Sane l
   pub objects : l .objects ≤ 128
-  pub readers : l .readers ≤ 64
+  pub readers : l .readers ≤ 16
   pub operations : l .operations ≤ 16
 
 -- The contract of a public call: its answer and both areas after it are those of `act`, outright.

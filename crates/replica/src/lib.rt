@@ -1,13 +1,14 @@
 // One replica over the two areas that the caller lends: the public calls. Each checks the areas first, then works in place.
 // The functions named `.._within` take the limits; the calls above them give the standard ones.
+use model::Delivery;
 use model::Execution;
 use model::Finding;
 use model::Limits;
 use model::Reading;
 use model::Reply;
-ghost use Rattle.model.specs.Calls.{opening, optimistic, open-reader, read as read-call, close-reader, find as find-call, execute as execute-call};
+ghost use Rattle.model.specs.Calls.{opening, optimistic, open-reader, read as read-call, close-reader, find as find-call, execute as execute-call, final};
 ghost use Rattle.model.specs.Limits.{standard};
-ghost use Rattle.model.specs.Answers.{reply, execution, reading, finding};
+ghost use Rattle.model.specs.Answers.{reply, execution, delivery, reading, finding};
 ghost use Rattle.queue.specs.Shown.{Shown};
 ghost use Rattle.replica.specs.Contract.{Supported, Met};
 
@@ -240,4 +241,34 @@ pub fn execute(records: &mut [u8], bodies: &[u8], count: u32) -> Execution
         operations: 16,
     };
     execute_within(records, bodies, l, count)
+}
+
+fn deliver_final_within(
+    records: &mut [u8],
+    bodies: &mut [u8],
+    l: Limits,
+    client: u32,
+    sequence: u32,
+) -> Delivery
+    requires { ⌜ Supported l ⌝ }
+    ensures { λ r. ⌜ Met l (final client sequence) (now (records .entry), now (bodies .entry)) (delivery r) (now (records .exit), now (bodies .exit)) ⌝ }
+{
+    if shape::check(records, bodies, l) {
+        commit::deliver_final(records, bodies, l, client, sequence)
+    } else {
+        Delivery::Refused(1)
+    }
+}
+
+// Final delivery: the transaction commits, its early results kept where they are still valid.
+pub fn deliver_final(records: &mut [u8], bodies: &mut [u8], client: u32, sequence: u32) -> Delivery
+    ensures { λ r. ⌜ Met standard (final client sequence) (now (records .entry), now (bodies .entry)) (delivery r) (now (records .exit), now (bodies .exit)) ⌝ }
+{
+    let l = Limits {
+        objects: 128,
+        pending: 32,
+        readers: 7,
+        operations: 16,
+    };
+    deliver_final_within(records, bodies, l, client, sequence)
 }

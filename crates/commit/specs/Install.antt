@@ -1,0 +1,167 @@
+-- What `install` asks, and what each of its turns leaves. Assumes nothing.
+use mathlib.Core.Path.{_≡_, refl, sym, ap, ap₂, _∙_, subst}
+use mathlib.Core.Bool.{true}
+use mathlib.Core.Option.{Option, none, some}
+use mathlib.Core.List.{List, [], _∷_, map}
+use Prim.Native.Nat.{ℕ, suc, _+_, _*_, _-_, _^_, _≤_, _<_}
+use native.Mathlib.Omega.{arith}
+use native.Mathlib.Nat.{mul-le-mul-right}
+use native.Mathlib.Numerals.{add-one}
+use lib.IntN.{ℤ, pos}
+use lib.ListN.{length, take, drop, getD, length-map}
+use lib.Signed.{mag}
+use mir.Syntax.{w64}
+use mir.Val.{toZ, ofZ}
+use mir.Facts.{toZ-ofZ}
+use borrow.Author.Tests.{ltb-true}
+use borrow.Rule.Slice.PartMut.{midOf, putMid}
+use Rattle.cells.specs.Cells.{cells, uncells}
+use Rattle.cells.specs.Laws.{cells-uncells}
+use Rattle.cells.specs.Uncells.{length-uncells}
+use Rattle.arith.specs.Integer.{fits}
+use Rattle.execution.specs.Entries.{Entry, lookup, append}
+use Rattle.execution.specs.Arrays.{entries}
+use Rattle.execution.specs.Agreement.{both}
+use Rattle.execution.specs.Shape.{Entries, sound}
+use Rattle.model.specs.declared.Limits.{Limits}
+use Rattle.model.specs.ListLaws.{All, all-mapped}
+use Rattle.model.specs.Serial.{Version}
+use Rattle.model.specs.Replica as model
+use Rattle.model.specs.Replica.{Replica, opens, prune, pushed}
+use Rattle.model.specs.Versions.{length-install}
+use Rattle.model.specs.Shape.{VersionsShape}
+use Rattle.layout.specs.Layout.{of-reader, record-of, object}
+use Rattle.layout.specs.Lawful.{Word, all-in, all-below}
+use Rattle.layout.specs.Offsets.{Sane, object-width, object-at, record-length}
+use Rattle.layout.specs.Printable.{ValueFits, ObjectFits, record-fits, lawful-record}
+use Rattle.layout.specs.Field.{sized}
+use Rattle.layout.specs.Fields.{sizes}
+use Rattle.layout.specs.Holds.{Holds, with-objects}
+use Rattle.layout.specs.Reading.{object-part}
+use Rattle.layout.specs.Writing.{write-object}
+use Rattle.versions.specs.Block.{width, stamps, held-in, block, block-ok, Lent}
+use Rattle.versions.specs.Round.{length-block}
+use Rattle.commit.specs.Versions.{install-none, install-one, install-before, entries-none, entries-end, entry-new, entry-sound}
+use Rattle.commit.specs.Blocks.{object-block, stamps-readers, pushed-fits, lent-versions, lent-ok}
+
+pub holds-length : (l : Limits) (s : Sane l) (b : List ℕ) (u : Replica) → Holds l b u → length b ≡ record-length l
+holds-length l s b u h =
+    ap length (h .same) ∙ sized (lawful-record l s) .len (record-of u) (record-fits l u (h .fits)) ∙ sizes l .2
+
+-- The record area b holds a replica whose versions are in shape, rs are its readers' cells, t is its next timestamp, and ws names different
+-- objects of it.
+pub record Ready (l : Limits) (b rs : List ℕ) (t : ℕ) (ws : List Entry) : Type 0 where
+  pub replica : Replica
+  pub holds : Holds l b replica
+  pub versions : All (VersionsShape (replica .timestamp) (opens (replica .readers))) (replica .objects)
+  pub readers : rs ≡ uncells (map of-reader (replica .readers))
+  pub next : t ≡ suc (replica .timestamp)
+  pub writes : Entries (length (replica .objects)) ws
+
+-- the replica after these writes
+abbrev pub installed : ℕ → List Entry → Replica → Replica
+installed t ws u = with-objects (model.install t (opens (u .readers)) ws (u .objects)) u
+
+module _ (l : Limits) (s : Sane l) (b rs : List ℕ) (t : ℕ) (word : Word t) (n : ℕ) (os : List ℕ) (vs : List ℤ) (p : Ready l b rs t (entries n os vs)) where
+  abbrev u : Replica
+  u = p .replica
+
+  pub install-start : Holds l b (installed t (entries 0 os vs) u)
+  install-start =
+      subst (λ (x : List (List Version)). Holds l b (with-objects x u))
+      (sym (ap (λ (w : List Entry). model.install t (opens (u .readers)) w (u .objects)) (entries-none os vs) ∙ install-none t (opens (u .readers)) (u .timestamp) (u .objects) (p .versions)))
+      (p .holds)
+
+  -- the turn of entry i, on the area c
+  module _ (c : List ℕ) (i : ℕ) (low : i < n) (h : Holds l c (installed t (entries i os vs) u)) where
+    abbrev o : ℕ
+    o = getD os i 0
+
+    abbrev v : ℤ
+    v = getD vs i (pos 0)
+
+    abbrev old : List Version
+    old = getD (u .objects) o []
+
+    is-sound : (o < length (u .objects)) × ValueFits v
+    unfolding fits
+    is-sound =
+        let k = both _ (fits v) (entry-sound os vs n i low (sound (length (u .objects))) (p .writes .values)) in
+        (ltb-true o (length (u .objects)) (k .0), record { sfits = ltb-true (mag v) (2 ^ 63) (k .1) })
+
+    pub object-there : o < l .objects
+    object-there = omega (arith, is-sound .0, p .holds .fits .objects .0)
+
+    there : o < length (model.install t (opens (u .readers)) (entries i os vs) (u .objects))
+    there = omega (arith, is-sound .0, length-install t (opens (u .readers)) (entries i os vs) (u .objects))
+
+    shape : VersionsShape (u .timestamp) (opens (u .readers)) old
+    shape = all-in (VersionsShape (u .timestamp) (opens (u .readers))) (u .objects) o [] (p .versions) (is-sound .0)
+
+    old-fits : ObjectFits (l .readers) old
+    old-fits = all-in (ObjectFits (l .readers)) (u .objects) o [] (p .holds .fits .objects .1) (is-sound .0)
+
+    new : lookup (entries i os vs) o ≡ none
+    new = entry-new os vs n i low (p .writes .names)
+
+    -- the part lent, in the code's numbers: r is the block's first cell, w its width
+    module _ (r w : ℕ) (er : r ≡ object-at l o) (ew : w ≡ object-width l) where
+      abbrev a : ℕ
+      a = r * 8
+
+      abbrev k : ℕ
+      k = r * 8 + w * 8 - r * 8
+
+      ea : a ≡ object-at l o * 8
+      ea = ap (λ (x : ℕ). x * 8) er
+
+      ek : k ≡ object-width l * 8
+      ek = omega (arith, ew)
+
+      pub block-inside : r * 8 + w * 8 ≤ length c
+      block-inside = omega (arith, mul-le-mul-right (object-width l) object-there, holds-length l s c (installed t (entries i os vs) u) h)
+
+      lent : midOf a k c ≡ uncells (block (l .readers) old)
+      lent =
+          ap₂ (λ (a k : ℕ). midOf a k c) ea ek
+          ∙ object-part l s c (installed t (entries i os vs) u) h o there
+          ∙ ap (λ (x : List Version). uncells (object l .enc x)) (install-before t (opens (u .readers)) (entries i os vs) o (u .objects) new (u .timestamp) (is-sound .0) shape)
+          ∙ ap uncells (object-block l old)
+
+      readers-cells : cells rs ≡ map of-reader (u .readers)
+      readers-cells =
+          ap cells (p .readers) ∙ cells-uncells (map of-reader (u .readers)) (all-below (2 ^ 64) (map of-reader (u .readers)) (omega arith) (all-mapped Word of-reader (u .readers) (p .holds .fits .readers .1)))
+
+      readers-stamps : stamps (cells rs) ≡ opens (u .readers)
+      readers-stamps = ap stamps readers-cells ∙ stamps-readers (u .readers)
+
+      small : l .readers < 2 ^ 63
+      small = omega (arith, s .readers)
+
+      before : t - 1 ≡ u .timestamp
+      before = omega (arith, p .next)
+
+      -- what `push_version` asks
+      pub push-lent : Lent (l .readers) rs (midOf a k c)
+      push-lent = record {
+        reader-cells = ap length (p .readers) ∙ length-uncells (map of-reader (u .readers)) ∙ omega (arith, length-map (u .readers) of-reader, p .holds .fits .readers .0);
+        block-cells = ap length lent ∙ length-uncells (block (l .readers) old) ∙ omega (arith, length-block (l .readers) old (old-fits .0));
+      }
+
+      pub push-ok : block-ok (l .readers) (t - 1) (cells rs) (cells (midOf a k c)) ≡ true
+      push-ok =
+          lent-ok (l .readers) old (midOf a k c) old-fits small lent (t - 1) (cells rs) (rw (before, readers-stamps) shape)
+
+      -- the block came back as ys; the code's value went through its bits
+      pub install-step : (ys : List ℕ) → ys ≡ uncells (block (l .readers) (prune (stamps (cells rs)) (pushed t (held-in (cells (midOf a k c))) (some (toZ w64 (ofZ w64 v)))))) → (d : List ℕ) → d ≡ putMid a k c ys → Holds l d (installed t (entries (i + 1) os vs) u)
+      install-step ys ey d ed =
+          let x : List Version = prune (opens (u .readers)) (pushed t old (some v)) in
+          let y : ys ≡ uncells (object l .enc x) =
+          ey ∙ ap (λ (z : ℤ). uncells (block (l .readers) (prune (stamps (cells rs)) (pushed t (held-in (cells (midOf a k c))) (some z))))) (toZ-ofZ (is-sound .1))
+          ∙ ap₂ (λ (q : List ℕ) (z : List Version). uncells (block (l .readers) (prune q (pushed t z (some v))))) readers-stamps (lent-versions (l .readers) old (midOf a k c) old-fits small lent)
+          ∙ ap uncells (sym (object-block l x)) in
+          subst (λ (z : List (List Version)). Holds l d (with-objects z u))
+          (install-one t (opens (u .readers)) (entries i os vs) o (u .objects) new v
+          ∙ ap (λ (e : List Entry). model.install t (opens (u .readers)) e (u .objects)) (sym (ap (λ (j : ℕ). entries j os vs) (add-one i) ∙ entries-end os vs i)))
+          (write-object l s c (installed t (entries i os vs) u) h o there x (pushed-fits (l .readers) (u .timestamp) t (u .readers) old v (p .holds .fits .readers .0) (p .next) word (is-sound .1) shape old-fits) d
+          (ed ∙ ap (putMid a k c) y ∙ ap₂ (λ (a k : ℕ). putMid a k c (uncells (object l .enc x))) ea ek))

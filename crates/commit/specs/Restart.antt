@@ -1,0 +1,86 @@
+-- What `restart_from` asks, and what each of its turns leaves. Assumes nothing.
+use mathlib.Core.Path.{_≡_, refl, sym, ap, ap₂, _∙_, subst}
+use mathlib.Core.Option.{none}
+use mathlib.Core.List.{List, [], _∷_, _++_, map}
+use Prim.Native.Nat.{ℕ, zero, suc, _+_, _*_, _-_, _≤_, _<_}
+use native.Mathlib.Omega.{arith}
+use native.Mathlib.Nat.{mul-le-mul-right, not-suc-le-zero, le-of-suc-le-suc}
+use native.Mathlib.Numerals.{add-one}
+use lib.ListN.{length, take, drop, getD, set, replicate, length-map, length-set}
+use Rattle.cells.specs.Cells.{cells, splice}
+use Rattle.model.specs.declared.Limits.{Limits}
+use Rattle.model.specs.Replica.{Pending, Replica, pending-of, restarted}
+use Rattle.layout.specs.Layout.{row-of}
+use Rattle.layout.specs.Offsets.{Sane, pending-at, row-width, row-at, record-length}
+use Rattle.layout.specs.Holds.{Holds, with-pending}
+use Rattle.layout.specs.Reading.{get-pending}
+use Rattle.layout.specs.WritingRows.{restart-row}
+use Rattle.commit.specs.Install.{holds-length}
+
+-- the record area b holds some replica
+pub record Held (l : Limits) (b : List ℕ) : Type 0 where
+  pub replica : Replica
+  pub holds : Holds l b replica
+
+pub few-pending : (l : Limits) (b : List ℕ) (u : Replica) → Holds l b u → length (u .pending) ≤ l .pending
+few-pending l b u h = omega (arith, h .fits .rows .0, length-map (u .pending) row-of)
+
+-- "the first .. and all after it, go back to their start"
+abbrev pub restarted-from : ℕ → List Pending → List Pending
+restarted-from i js = take i js ++ map restarted (drop i js)
+
+one-restarted : (js : List Pending) (i : ℕ) (d : Pending) → i < length js → restarted-from (suc i) (set js i (restarted (getD js i d))) ≡ restarted-from i js
+one-restarted [] i d h = absurd (not-suc-le-zero h)
+one-restarted (j ∷ js) zero d h = refl
+one-restarted (j ∷ js) (suc i) d h = ap (j ∷_) (one-restarted js i d (le-of-suc-le-suc h))
+
+pub none-restarted : (js : List Pending) (i : ℕ) → length js ≤ i → restarted-from i js ≡ js
+none-restarted [] zero h = refl
+none-restarted [] (suc i) h = refl
+none-restarted (j ∷ js) zero h = absurd (not-suc-le-zero h)
+none-restarted (j ∷ js) (suc i) h = ap (j ∷_) (none-restarted js i (le-of-suc-le-suc h))
+
+-- the area b now: of n transactions, those from i on are still to be sent back
+pub record Restarting (l : Limits) (b : List ℕ) (u : Replica) (from n i : ℕ) : Type 0 where
+  pub queue : List Pending
+  pub holds : Holds l b (with-pending queue u)
+  pub count : length queue ≡ n
+  pub left : restarted-from i queue ≡ restarted-from from (u .pending)
+
+module _ (l : Limits) (s : Sane l) (b : List ℕ) (u : Replica) (h : Holds l b u) where
+  -- the code reads the count at cell a
+  pub count-read : (a n : ℕ) → a ≡ pending-at l → n ≡ getD (cells b) a 0 → n ≡ length (u .pending)
+  count-read a n ea e = e ∙ ap (λ (x : ℕ). getD (cells b) x 0) ea ∙ get-pending l s b u h
+
+  pub restart-start : (from n : ℕ) → n ≡ length (u .pending) → Restarting l b u from n from
+  restart-start from n e = record { queue = u .pending; holds = h; count = sym e; left = refl }
+
+module _ (l : Limits) (s : Sane l) (b : List ℕ) (u : Replica) (from n i : ℕ) (r : Restarting l b u from n i) where
+  pub restart-end : n ≤ i → Holds l b (with-pending (restarted-from from (u .pending)) u)
+  restart-end z =
+      subst (λ (js : List Pending). Holds l b (with-pending js u)) (sym (none-restarted (r .queue) i (omega (arith, r .count))) ∙ r .left) (r .holds)
+
+  pub restart-length : length b ≡ record-length l
+  restart-length = holds-length l s b (with-pending (r .queue) u) (r .holds)
+
+  module _ (low : i < n) where
+    pub row-there : i < l .pending
+    row-there = omega (arith, few-pending l b (with-pending (r .queue) u) (r .holds), r .count)
+
+    -- a and e are where the row and the next one start
+    module _ (a e : ℕ) (ea : a ≡ row-at l i) (ee : e ≡ row-at l (i + 1)) where
+      pub restart-inside : ((a + 1) * 8 ≤ e * 8) × (e * 8 ≤ length b)
+      restart-inside = (omega arith, omega (arith, restart-length, mul-le-mul-right (row-width l) row-there))
+
+      pub restart-step : (c : List ℕ) → c ≡ splice b ((a + 1) * 8) (replicate (e * 8 - (a + 1) * 8) 0) → Restarting l c u from n (i + 1)
+      restart-step c ec =
+          let d = pending-of none in
+          let k : i < length (r .queue) = omega (arith, r .count) in
+          let w : e * 8 - (a + 1) * 8 ≡ (row-width l - 1) * 8 = omega arith in
+          record {
+            queue = set (r .queue) i (restarted (getD (r .queue) i d));
+            holds = restart-row l s b (with-pending (r .queue) u) (r .holds) i k d c
+                (ec ∙ ap₂ (λ (x y : ℕ). splice b ((x + 1) * 8) (replicate y 0)) ea w);
+            count = length-set (r .queue) i (restarted (getD (r .queue) i d)) ∙ r .count;
+            left = ap (λ (j : ℕ). restarted-from j (set (r .queue) i (restarted (getD (r .queue) i d)))) (add-one i) ∙ one-restarted (r .queue) i d k ∙ r .left;
+          }

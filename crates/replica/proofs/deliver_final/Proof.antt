@@ -1,0 +1,21 @@
+-- `replica::deliver_final` meets its contract: it is `deliver_final_within` at the standard limits. Assumes nothing.
+use borrow.Author.Needs.{needs}
+use Rattle.model.specs.Limits.{standard}
+use Rattle.replica.proofs.deliver_final.Statement.{statement}
+use Rattle.replica.proofs.deliver_final.Tie as tie
+
+deliver-final-within-requires : tie.Need-deliver-final-within-requires
+deliver-final-within-requires c κs = search needs
+
+same-length : tie.Need-same-length
+same-length c = search needs
+
+same-length-2 : tie.Need-same-length-2
+same-length-2 c = search needs
+
+returns : tie.Need-returns
+unfolding standard
+returns c = c .before .before .before .before .deliver-final-within .ensures
+
+pub deliver-final-spec : {M : Type 1} → statement M
+deliver-final-spec = tie.close (tie.spec deliver-final-within-requires same-length same-length-2 returns)
