@@ -1,5 +1,5 @@
 -- An object's block of the layout is that of `versions`, and so are the readers' cells. Assumes nothing.
-use mathlib.Core.Path.{_≡_, refl, sym, ap, ap₂, _∙_}
+use mathlib.Core.Path.{_≡_, refl, ap, ap₂, _∙_}
 use mathlib.Core.Bool.{true}
 use mathlib.Core.Option.{Option, none, some}
 use mathlib.Core.List.{List, [], _∷_, _++_, map}
@@ -20,7 +20,7 @@ use Rattle.layout.specs.Rows as rows
 use Rattle.layout.specs.Layout.{of-reader, version, object}
 use Rattle.layout.specs.Printable.{ValueFits, VersionFits, ObjectFits}
 use Rattle.layout.specs.Lawful.{Word}
-use Rattle.versions.specs.Block.{width, reader-of, stamps, held-in, flat, block, Small, block-ok}
+use Rattle.versions.specs.Block.{stamps, held-in, flat, block, Small, block-ok}
 use Rattle.versions.specs.Round.{below-block, held-block, ok-block}
 
 flat-same : (vs : List Version) → rows.flat (map (version .enc) vs) ≡ flat vs

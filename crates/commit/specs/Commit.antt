@@ -1,22 +1,21 @@
 -- A commit on both areas, step by step: what `publish` and `commit_at` ask and ensure. Assumes nothing.
 use mathlib.Core.Path.{_≡_, refl, sym, ap, ap₂, _∙_, subst, fun-ext}
-use mathlib.Core.Bool.{Bool, true, false, cond}
+use mathlib.Core.Bool.{Bool, true, false}
 use mathlib.Core.Option.{Option, none, some, Option·getD}
 use mathlib.Core.List.{List, [], _∷_, _++_, map, map-map, append-nil}
-use Prim.Native.Nat.{ℕ, zero, suc, _+_, _*_, _-_, _^_, _≤_, _<_}
+use Prim.Native.Nat.{ℕ, suc, _+_, _*_, _-_, _^_, _≤_, _<_}
 use native.Mathlib.Omega.{arith}
-use native.Mathlib.Numerals.{add-one}
 use lib.IntN.{ℤ}
-use lib.Dec.{eqb, ltb}
+use lib.Dec.{ltb}
 use lib.ListN.{length, take, drop, getD, set, replicate, length-append, length-drop, length-map, drop-of-length-le, List·getD-eq-default}
 use lib.Seq.{length-take-le, take-length, take-at}
 use borrow.Author.Tests.{ltb-true, ltb-false, ne-eqb}
 use borrow.Rule.Slice.PartMut.{midOf}
-use Rattle.cells.specs.Cells.{cells, uncells, Put}
+use Rattle.cells.specs.Cells.{cells, Put}
 use Rattle.operation.specs.Body.{size, operations, wellFormed}
 use Rattle.operation.specs.Laws.{length-operations, formed}
 use Rattle.execution.specs.Entries.{Entry, lookup}
-use Rattle.execution.specs.Run.{Table, tableOf, Run, over}
+use Rattle.execution.specs.Run.{Table, tableOf, over}
 use Rattle.execution.specs.Arrays.{capacity, entries}
 use Rattle.execution.specs.Agreement.{both}
 use Rattle.execution.specs.Shape.{Shaped, Entries, every, sound}
@@ -30,16 +29,15 @@ use Rattle.model.specs.Answers.{delivery}
 use Rattle.model.specs.Serial.{Version}
 use Rattle.model.specs.Replica as model
 use Rattle.model.specs.Replica.{Pending, Replica, newest, opens, prune, pushed, table, program, stays, validated, result, commit, pending-of}
-use Rattle.model.specs.Versions.{newest-prune, length-install}
-use Rattle.model.specs.EarlyResults.{sents, walk-sents}
+use Rattle.model.specs.Versions.{newest-prune}
+use Rattle.model.specs.EarlyResults.{walk-sents}
 use Rattle.model.specs.Shape.{VersionsShape, Shape}
 use Rattle.model.specs.ShapeRuns.{AllShaped}
-use Rattle.model.specs.ShapeParts.{objects-part, pending-part, table-fits, result-shaped}
-use Rattle.layout.specs.Layout.{of-reader, row-of, body-of}
-use Rattle.layout.specs.Lawful.{Word, all-in}
-use Rattle.layout.specs.Offsets.{Sane, last-at, reader-at, record-length}
-use Rattle.layout.specs.Printable.{Printable}
-use Rattle.layout.specs.Holds.{Holds, HoldsBodies, with-timestamp, with-lasts, with-objects, with-pending}
+use Rattle.model.specs.ShapeParts.{pending-part, table-fits, result-shaped}
+use Rattle.layout.specs.Layout.{body-of}
+use Rattle.layout.specs.Lawful.{all-in}
+use Rattle.layout.specs.Offsets.{Sane, last-at}
+use Rattle.layout.specs.Holds.{Holds, HoldsBodies, with-timestamp, with-lasts, with-pending}
 use Rattle.layout.specs.Reading.{readers-part, get-size, get-timestamp}
 use Rattle.layout.specs.Writing.{put-timestamp, put-last}
 use Rattle.layout.specs.Bodies.{same-bodies}

@@ -1,34 +1,28 @@
 -- What a final delivery of a pending transaction comes to: what `decide` asks and ensures. Assumes nothing.
-use mathlib.Core.Path.{_≡_, refl, sym, ap, ap₂, _∙_, subst}
+use mathlib.Core.Path.{_≡_, subst, sym, ap, ap₂, _∙_}
 use mathlib.Core.Bool.{Bool, true, false, cond, _&&_}
 use mathlib.Core.Option.{none}
 use mathlib.Core.List.{List}
-use Prim.Native.Nat.{ℕ, suc, _+_, _*_, _-_, _^_, _≤_, _<_}
+use Prim.Native.Nat.{ℕ, _+_, _*_, _-_, _≤_, _<_}
 use native.Mathlib.Omega.{arith}
 use native.Mathlib.Nat.{mul-le-mul-right}
 use lib.IntN.{ℤ}
-use lib.ListN.{length, take, drop, getD}
+use lib.ListN.{length, getD}
 use borrow.Rule.Slice.PartMut.{midOf}
-use Rattle.cells.specs.Cells.{cells}
 use Rattle.operation.specs.Body.{size, operations, wellFormed}
-use Rattle.operation.specs.Laws.{Formed, formed, well-formed}
+use Rattle.operation.specs.Laws.{formed, well-formed}
 use Rattle.execution.specs.declared.Counts.{Counts}
-use Rattle.execution.specs.Entries.{Entry}
 use Rattle.execution.specs.Run.{Table, tableOf, Run, is-none, due-at, whole, matches}
 use Rattle.execution.specs.Arrays.{capacity, entries, runOf, Held}
 use Rattle.model.specs.declared.Limits.{Limits}
-use Rattle.model.specs.ListLaws.{All}
 use Rattle.model.specs.Replica.{Pending, Replica, program, validated, result, pending-of}
 use Rattle.layout.specs.Layout.{body-of}
-use Rattle.layout.specs.Offsets.{Sane, row-width, row-at, body-width, body-at, bodies-length}
-use Rattle.layout.specs.Printable.{BodyFits}
+use Rattle.layout.specs.Offsets.{Sane, body-width, body-at}
 use Rattle.layout.specs.Holds.{Holds, HoldsBodies}
 use Rattle.layout.specs.Bodies.{body-part, body-size, body-span}
-use Rattle.rows.specs.RowRun.{Loaded}
 use Rattle.commit.specs.declared.Decision.{Decision}
 use Rattle.commit.specs.Restart.{few-pending}
-use Rattle.commit.specs.Leave.{at, fits-at, bodies-sized}
-use Rattle.commit.specs.Walk.{row-ends, lent-readable, loaded-run, loaded-few}
+use Rattle.commit.specs.Leave.{at, bodies-sized}
 
 -- both areas hold a replica, whose transaction i is to be decided on this table of its objects
 pub record Deciding (l : Limits) (b c : List ℕ) (i : ℕ) (vs : List ℤ) : Type 0 where
@@ -44,6 +38,13 @@ pub record Decided (T : Table) (j : Pending) (r : Decision) (wo : List ℕ) (wv 
   pub validated : r .validated ≡ validated T j
   pub outcome : r .outcome ≡ result T j .outcome
   pub writes : entries (r .stored) wo wv ≡ result T j .writes
+
+-- a run in counts, kept or not
+abbrev pub decision-of : Counts → Bool → Decision
+decision-of t kept = record { outcome = t .outcome; validated = kept; stored = t .writes }
+
+pub decided-as : {T : Table} {j : Pending} {wo : List ℕ} {wv : List ℤ} (r d : Decision) → r ≡ d → Decided T j d wo wv → Decided T j r wo wv
+decided-as {T} {j} {wo} {wv} r d e h = subst (λ (x : Decision). Decided T j x wo wv) (sym e) h
 
 module _ (l : Limits) (s : Sane l) (b c : List ℕ) (i : ℕ) (vs : List ℤ) (p : Deciding l b c i vs) where
   abbrev u : Replica
@@ -92,7 +93,7 @@ module _ (l : Limits) (s : Sane l) (b c : List ℕ) (i : ℕ) (vs : List ℤ) (p
             ez
             ∙ ap₂ (λ (x : List ℕ) (q : Run). is-none (due-at (operations x) (q .counter) (q .outcome)) && matches (tableOf vs) (q .reads)) lent-body e
 
-        pub decided-kept : z ≡ true → Decided (tableOf vs) j (record { outcome = t .outcome; validated = true; stored = t .writes }) wo wv
+        pub decided-kept : z ≡ true → Decided (tableOf vs) j (decision-of t true) wo wv
         unfolding result
         decided-kept f =
             let v : validated (tableOf vs) j ≡ true = sym told ∙ f in
@@ -100,7 +101,7 @@ module _ (l : Limits) (s : Sane l) (b c : List ℕ) (i : ℕ) (vs : List ℤ) (p
             record { validated = sym v; outcome = ap (λ (q : Run). q .outcome) (e ∙ sym r); writes = ap (λ (q : Run). q .writes) (e ∙ sym r) }
 
         pub decided-again : z ≡ false → (t′ : Counts) (ro′ : List ℕ) (rv′ : List ℤ) (wo′ : List ℕ) (wv′ : List ℤ) → Held (whole (tableOf vs) (operations (midOf x (x + 1 + 11 * n - x) c))) t′ ro′ rv′ wo′ wv′
-            → Decided (tableOf vs) j (record { outcome = t′ .outcome; validated = false; stored = t′ .writes }) wo′ wv′
+            → Decided (tableOf vs) j (decision-of t′ false) wo′ wv′
         unfolding result
         decided-again f t′ ro′ rv′ wo′ wv′ h =
             let v : validated (tableOf vs) j ≡ false = sym told ∙ f in

@@ -1,9 +1,9 @@
 -- The final delivery on areas that pass the shape check: which refusal, or the commit of the transaction found. Assumes nothing.
-use mathlib.Core.Path.{_≡_, refl, sym, ap, ap₂, _∙_, subst}
-use mathlib.Core.Bool.{Bool, true, false, not, cond, _||_}
-use mathlib.Core.Option.{Option, none, some}
-use mathlib.Core.List.{List, [], _∷_, map}
-use Prim.Native.Nat.{ℕ, zero, suc, _+_, _≤_, _<_}
+use mathlib.Core.Path.{_≡_, refl, sym, ap, _∙_}
+use mathlib.Core.Bool.{Bool, true, false, cond, _||_}
+use mathlib.Core.Option.{some}
+use mathlib.Core.List.{List, [], _∷_}
+use Prim.Native.Nat.{ℕ, suc, _≤_, _<_}
 use native.Mathlib.Omega.{arith}
 use lib.Dec.{leb, ltb}
 use lib.ListN.{length, getD}
@@ -12,9 +12,8 @@ use Rattle.cells.specs.Cells.{cells, Below}
 use Rattle.model.specs.declared.Limits.{Limits}
 use Rattle.model.specs.declared.Commit.{Commit}
 use Rattle.model.specs.declared.Delivery as deliveries
-use Rattle.model.specs.declared.Delivery.{Delivery}
 use Rattle.model.specs.Lists.{pick, any, index}
-use Rattle.model.specs.Calls.{final, Answer, refused, Transaction, is-key, clients, lastTimestamp, causes, refusal}
+use Rattle.model.specs.Calls.{final, Answer, refused, is-key, clients, lastTimestamp, causes, refusal}
 use Rattle.model.specs.Answers.{delivery}
 use Rattle.model.specs.Replica.{Pending, Replica, has-key, pending-of, facts, perform, commit, validated, result, table}
 use Rattle.model.specs.EarlyResults.{sents}
@@ -28,7 +27,7 @@ use Rattle.layout.specs.Areas.{act-refused}
 use Rattle.layout.specs.Holds.{Holds, HoldsBodies, laid-holds, laid-bodies, holds-print}
 use Rattle.layout.specs.Reading.{get-last, get-timestamp}
 use Rattle.queue.specs.Place as queue
-use Rattle.commit.specs.Leave.{Both, at}
+use Rattle.commit.specs.Leave.{at}
 use Rattle.commit.specs.Commit.{Found, Answered, commit-at}
 
 suc-ltb : (m n : ℕ) → ltb m n ≡ ltb (suc m) (suc n)

@@ -1,14 +1,14 @@
 -- What `install` asks, and what each of its turns leaves. Assumes nothing.
-use mathlib.Core.Path.{_≡_, refl, sym, ap, ap₂, _∙_, subst}
+use mathlib.Core.Path.{_≡_, sym, ap, ap₂, _∙_, subst}
 use mathlib.Core.Bool.{true}
-use mathlib.Core.Option.{Option, none, some}
-use mathlib.Core.List.{List, [], _∷_, map}
+use mathlib.Core.Option.{none, some}
+use mathlib.Core.List.{List, [], map}
 use Prim.Native.Nat.{ℕ, suc, _+_, _*_, _-_, _^_, _≤_, _<_}
 use native.Mathlib.Omega.{arith}
 use native.Mathlib.Nat.{mul-le-mul-right}
 use native.Mathlib.Numerals.{add-one}
 use lib.IntN.{ℤ, pos}
-use lib.ListN.{length, take, drop, getD, length-map}
+use lib.ListN.{length, getD, length-map}
 use lib.Signed.{mag}
 use mir.Syntax.{w64}
 use mir.Val.{toZ, ofZ}
@@ -19,7 +19,7 @@ use Rattle.cells.specs.Cells.{cells, uncells}
 use Rattle.cells.specs.Laws.{cells-uncells}
 use Rattle.cells.specs.Uncells.{length-uncells}
 use Rattle.arith.specs.Integer.{fits}
-use Rattle.execution.specs.Entries.{Entry, lookup, append}
+use Rattle.execution.specs.Entries.{Entry, lookup}
 use Rattle.execution.specs.Arrays.{entries}
 use Rattle.execution.specs.Agreement.{both}
 use Rattle.execution.specs.Shape.{Entries, sound}
@@ -39,7 +39,7 @@ use Rattle.layout.specs.Fields.{sizes}
 use Rattle.layout.specs.Holds.{Holds, with-objects}
 use Rattle.layout.specs.Reading.{object-part}
 use Rattle.layout.specs.Writing.{write-object}
-use Rattle.versions.specs.Block.{width, stamps, held-in, block, block-ok, Lent}
+use Rattle.versions.specs.Block.{stamps, held-in, block, block-ok, Lent}
 use Rattle.versions.specs.Round.{length-block}
 use Rattle.commit.specs.Versions.{install-none, install-one, install-before, entries-none, entries-end, entry-new, entry-sound}
 use Rattle.commit.specs.Blocks.{object-block, stamps-readers, pushed-fits, lent-versions, lent-ok}

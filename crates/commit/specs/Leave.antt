@@ -8,11 +8,11 @@ use native.Mathlib.Omega.{arith}
 use native.Mathlib.Nat.{mul-le-mul-right, zero-add, sub-zero}
 use native.Mathlib.Numerals.{add-one}
 use lib.Dec.{eqb, leb}
-use lib.ListN.{length, take, drop, getD, set, replicate, length-map, length-set, length-replicate, drop-of-length-le, List·getD-map}
+use lib.ListN.{length, take, drop, getD, set, replicate, length-map, length-set, length-replicate, drop-of-length-le}
 use lib.Seq.{set-getD, drop-cons, drop-set-lt, take-suc-set}
 use borrow.Author.Tests.{ne-eqb, eqb-true, eqb-false, le-leb, lt-leb, leb-true, leb-false}
 use borrow.Rule.Slice.PartMut.{midOf, putMid}
-use Rattle.cells.specs.Cells.{cells, uncells, splice, Put}
+use Rattle.cells.specs.Cells.{cells, splice, Put}
 use Rattle.cells.specs.Splice.{splice-back}
 use Rattle.cells.specs.Uncells.{length-uncells}
 use Rattle.model.specs.declared.Limits.{Limits}
@@ -21,11 +21,10 @@ use Rattle.model.specs.Lists.{keep}
 use Rattle.model.specs.ListLaws.{All, map-set}
 use Rattle.model.specs.Replica.{Pending, Replica, pending-of, stays}
 use Rattle.layout.specs.Rows.{flat, table, blank}
-use Rattle.layout.specs.RowLaws.{Uniform, row-length, table-length, row-read, row-write}
-use Rattle.layout.specs.Layout.{of-key, row, row-of, body-of, body, bodies-of}
+use Rattle.layout.specs.RowLaws.{Uniform, table-length, row-read, row-write}
+use Rattle.layout.specs.Layout.{of-key, row, row-of, body-of, body}
 use Rattle.layout.specs.Offsets.{Sane, pending-at, row-width, row-at, record-length, body-width, body-at, bodies-length}
 use Rattle.layout.specs.OffsetLaws.{row-span, body-spans}
-use Rattle.layout.specs.Lawful.{all-in, all-take}
 use Rattle.layout.specs.Printable.{RowFits, BodyFits, Printable, lawful-body}
 use Rattle.layout.specs.Field.{sized, uniform}
 use Rattle.layout.specs.Fields.{sized-row, sizes}

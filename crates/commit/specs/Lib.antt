@@ -1,5 +1,5 @@
--- Versions: installing a write set, on lists. Blocks: an object's block of the layout is that of `versions`. Install, Leave, Restart: what the
--- functions of these names ask and leave.
+-- Versions: installing a write set, on lists. Blocks: an object's block of the layout is that of `versions`. The others, in the order of the code:
+-- what each function asks, and the laws of its turns and steps.
 pub mod Versions
 pub mod Blocks
 pub mod Install

@@ -1,10 +1,10 @@
 -- Installing a write set, one entry after another: objects that are not written keep their versions, since all of them are held. Assumes nothing.
 use mathlib.Core.Path.{_≡_, refl, sym, ap, _∙_}
 use mathlib.Core.Logic.{_≢_}
-use mathlib.Core.Bool.{Bool, true, false, not, cond, _&&_, false≢true}
+use mathlib.Core.Bool.{Bool, true, false, not, cond, false≢true}
 use mathlib.Core.Option.{Option, none, some}
 use mathlib.Core.List.{List, [], _∷_, _++_}
-use Prim.Native.Nat.{ℕ, zero, suc, _+_, _≤_, _<_}
+use Prim.Native.Nat.{ℕ, zero, suc, _+_, _<_}
 use native.Mathlib.Omega.{arith}
 use native.Mathlib.Nat.{not-suc-le-zero, le-of-suc-le-suc}
 use lib.IntN.{ℤ, pos}
@@ -12,7 +12,7 @@ use lib.Dec.{eqb}
 use lib.ListN.{length, getD, set}
 use borrow.Author.Tests.{eq-eqb, ne-eqb}
 use Rattle.operation.specs.Body.{listed}
-use Rattle.execution.specs.Entries.{Entry, entry, lookup, append}
+use Rattle.execution.specs.Entries.{Entry, lookup, append}
 use Rattle.execution.specs.Arrays.{entryAt, entries}
 use Rattle.execution.specs.Agreement.{both}
 use Rattle.execution.specs.Shape.{is-some, distinct, every}

@@ -3,27 +3,26 @@ use mathlib.Core.Path.{_≡_, refl, sym, ap, ap₂, _∙_, subst}
 use mathlib.Core.Bool.{Bool, true, false, cond}
 use mathlib.Core.Option.{none}
 use mathlib.Core.List.{List, [], _∷_, _++_, map, append-assoc, append-nil}
-use Prim.Native.Nat.{ℕ, zero, suc, _+_, _*_, _-_, _^_, _≤_, _<_}
+use Prim.Native.Nat.{ℕ, suc, _+_, _*_, _-_, _≤_, _<_}
 use native.Mathlib.Omega.{arith}
 use native.Mathlib.Nat.{mul-le-mul-right}
 use native.Mathlib.Numerals.{add-one}
 use lib.IntN.{ℤ}
-use lib.ListN.{length, take, drop, getD, length-map, drop-of-length-le}
+use lib.ListN.{length, take, drop, drop-of-length-le}
 use lib.Seq.{take-all, take-suc, drop-cons}
 use borrow.Rule.Slice.PartMut.{midOf}
 use Rattle.cells.specs.Cells.{cells, uncells}
 use Rattle.execution.specs.declared.Counts.{Counts}
 use Rattle.execution.specs.Entries.{Entry}
 use Rattle.execution.specs.Run.{Table, tableOf, Run, matches, over}
-use Rattle.execution.specs.Arrays.{capacity, entries, runOf, Room}
+use Rattle.execution.specs.Arrays.{capacity, entries, runOf}
 use Rattle.execution.specs.Shape.{Shaped, every, sound}
 use Rattle.model.specs.declared.Limits.{Limits}
-use Rattle.model.specs.ListLaws.{All}
 use Rattle.model.specs.Replica as model
 use Rattle.model.specs.Replica.{Pending, Replica, program, restarted}
 use Rattle.model.specs.ShapeRuns.{AllShaped}
 use Rattle.layout.specs.Layout.{row, row-of}
-use Rattle.layout.specs.Offsets.{Sane, row-width, row-at, record-length}
+use Rattle.layout.specs.Offsets.{Sane, row-width, row-at}
 use Rattle.layout.specs.Lawful.{all-in}
 use Rattle.layout.specs.Printable.{RowFits}
 use Rattle.layout.specs.Holds.{Holds, with-pending}

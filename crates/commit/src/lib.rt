@@ -24,7 +24,7 @@ ghost use Rattle.layout.specs.Holds.{Holds, with-pending};
 ghost use Rattle.commit.specs.Install.{Ready, installed};
 ghost use Rattle.commit.specs.Restart.{Held, restarted-from};
 ghost use Rattle.commit.specs.Walk.{Walking};
-ghost use Rattle.commit.specs.Decide.{Deciding, Decided};
+ghost use Rattle.commit.specs.Decide.{Deciding, Decided, decision-of};
 ghost use Rattle.commit.specs.Commit.{Local, Publishing, Found, Tabled, Answered, commit-at};
 ghost use Rattle.commit.specs.Leave.{at};
 ghost use Rattle.commit.specs.Leave.{Paired, Both, Moving, moved, Closing, Clearing, Counted};
@@ -67,9 +67,9 @@ pub fn restart_from(records: &mut [u8], l: Limits, from: usize)
     requires { ⌜ Held l (now records) ⌝ }
     ensures { λ _. ⌜ ((p : Held l (now (records .entry))) → Holds l (now (records .exit)) (with-pending (restarted-from from (p .replica .pending)) (p .replica))) ⌝ }
 {
-    let count = cells::get(records, layout::pending_at(l)) as usize;
+    let pending = cells::get(records, layout::pending_at(l)) as usize;
     let mut i = from;
-    while i < count {
+    while i < pending {
         let row = layout::row_at(l, i);
         let next = layout::row_at(l, i + 1);
         cells::fill_zero(records, (row + 1) * 8, next * 8);
@@ -221,6 +221,16 @@ pub struct Decision {
     pub stored: usize,
 }
 
+fn decided(t: Counts, validated: bool) -> Decision
+    ensures { λ r. ⌜ r ≡ decision-of t validated ⌝ }
+{
+    Decision {
+        outcome: t.outcome,
+        validated,
+        stored: t.writes,
+    }
+}
+
 // Whether a run of this body is finished and every value that it read from outside itself is the table's.
 fn is_validated<'a>(
     table: &[i64],
@@ -271,18 +281,10 @@ fn decide(
         wv,
     );
     if is_validated(table, body, &ro, &rv, t) {
-        return Decision {
-            outcome: t.outcome,
-            validated: true,
-            stored: t.writes,
-        };
+        return decided(t, true);
     }
     let w = execution::run(table, body, &mut ro, &mut rv, wo, wv);
-    Decision {
-        outcome: w.outcome,
-        validated: false,
-        stored: w.writes,
-    }
+    decided(w, false)
 }
 
 // Installs a write set in the record area. The readers' cells are copied: two parts of one area cannot be lent at a time.

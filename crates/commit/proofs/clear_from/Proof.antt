@@ -1,18 +1,11 @@
 -- `commit::clear_from` meets its contract: both tails are filled with 0, and the count says how many stay.
-use mathlib.Core.Path.{_≡_, refl, sym, ap, _∙_}
-use Prim.Native.Nat.{ℕ, _+_, _*_, _≤_, _<_, _-_, _^_}
+use mathlib.Core.Path.{refl}
+use Prim.Native.Nat.{_-_}
 use native.Mathlib.Omega.{arith}
 use borrow.Author.Needs.{needs}
-use Rattle.commit.specs.Leave.{Clearing, clearing-few, clearing-sizes, clear-rows-inside, clear-bodies-inside, clear-both}
+use Rattle.commit.specs.Leave.{clearing-few, clearing-sizes, clear-rows-inside, clear-bodies-inside, clear-both}
 use Rattle.commit.proofs.clear_from.Statement.{statement}
 use Rattle.commit.proofs.clear_from.Tie as tie
-use Rattle.commit.proofs.clear_from.Reads as reads
-use Rattle.commit.proofs.clear_from.Lts as lts
-use Rattle.cells.proofs.fill_zero.Reads as fill-zero-reads
-use Rattle.cells.proofs.put.Reads as put-reads
-use Rattle.layout.proofs.body_at.Reads as body-at-reads
-use Rattle.layout.proofs.pending_at.Reads as pending-at-reads
-use Rattle.layout.proofs.row_at.Reads as row-at-reads
 
 row-at-requires : tie.Need-row-at-requires
 row-at-requires c κs =

@@ -1,17 +1,11 @@
 -- `commit::close_up` meets its contract. The invariant: those passed that stay stand at the front, the others where they were.
-use mathlib.Core.Path.{_≡_, refl, sym, ap, _∙_, subst}
-use Prim.Native.Nat.{ℕ, _+_, _*_, _≤_, _<_, _-_, _^_}
+use mathlib.Core.Path.{_≡_, sym, _∙_, subst}
+use Prim.Native.Nat.{_≤_, _-_}
 use native.Mathlib.Omega.{arith}
 use borrow.Author.Needs.{needs}
 use Rattle.commit.specs.Leave.{Counted, Closing, closing-start, closing-sizes, closing-room, closing-there, closing-key, closing-sequence, closing-leaves, closing-moving, closing-stays}
 use Rattle.commit.proofs.close_up.Statement.{statement}
 use Rattle.commit.proofs.close_up.Tie as tie
-use Rattle.commit.proofs.close_up.Reads as reads
-use Rattle.commit.proofs.close_up.Lts as lts
-use Rattle.cells.proofs.get.Reads as get-reads
-use Rattle.commit.proofs.leaves.Reads as leaves-reads
-use Rattle.commit.proofs.move_transaction.Reads as move-transaction-reads
-use Rattle.layout.proofs.row_at.Reads as row-at-reads
 
 abbrev Inv-loop : tie.InvT-loop
 Inv-loop records₀ bodies₀ l count client sequence kept₀ i₀ records bodies kept i =

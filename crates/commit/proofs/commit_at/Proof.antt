@@ -1,13 +1,9 @@
 -- `commit::commit_at` meets its contract: the committed state is read, and the commit goes on with it.
-use mathlib.Core.Path.{_≡_, refl, sym, ap, _∙_}
+use mathlib.Core.Path.{refl}
 use borrow.Author.Needs.{needs}
-use Rattle.commit.specs.Commit.{Local, Found, found-laid, values-few, values-lent, found-tabled}
+use Rattle.commit.specs.Commit.{found-laid, values-few, values-lent, found-tabled}
 use Rattle.commit.proofs.commit_at.Statement.{statement}
 use Rattle.commit.proofs.commit_at.Tie as tie
-use Rattle.commit.proofs.commit_at.Reads as reads
-use Rattle.commit.proofs.commit_at.Lts as lts
-use Rattle.commit.proofs.commit_on.Reads as commit-on-reads
-use Rattle.rows.proofs.committed_values.Reads as committed-values-reads
 
 committed-values-requires : tie.Need-committed-values-requires
 committed-values-requires c κs =

@@ -1,22 +1,12 @@
 -- `commit::commit_on` meets its contract: each step is a law's.
-use mathlib.Core.Path.{_≡_, refl, sym, ap, _∙_}
-use Prim.Native.Nat.{ℕ, _+_, _*_, _≤_, _<_, _-_, _^_}
+use mathlib.Core.Path.{refl, ap}
+use Prim.Native.Nat.{ℕ, _+_, _-_}
 use native.Mathlib.Omega.{arith}
-use lib.ListN.{length, take, drop}
 use borrow.Author.Needs.{needs}
 use Rattle.commit.specs.Install.{holds-length}
-use Rattle.commit.specs.Commit.{Local, Tabled, found-deciding, writes-sound, outcome-small, stored-few, next-small, found-publishing, found-paired, found-walking, found-done, few-clients}
+use Rattle.commit.specs.Commit.{found-deciding, writes-sound, outcome-small, stored-few, next-small, found-publishing, found-paired, found-walking, found-done, few-clients}
 use Rattle.commit.proofs.commit_on.Statement.{statement}
 use Rattle.commit.proofs.commit_on.Tie as tie
-use Rattle.commit.proofs.commit_on.Reads as reads
-use Rattle.commit.proofs.commit_on.Lts as lts
-use Rattle.cells.proofs.get.Reads as get-reads
-use Rattle.cells.proofs.put.Reads as put-reads
-use Rattle.commit.proofs.decide.Reads as decide-reads
-use Rattle.commit.proofs.leave.Reads as leave-reads
-use Rattle.commit.proofs.publish.Reads as publish-reads
-use Rattle.commit.proofs.walk.Reads as walk-reads
-use Rattle.execution.proofs.overlay.Reads as overlay-reads
 
 decide-requires : tie.Need-decide-requires
 decide-requires c κs =

@@ -1,21 +1,13 @@
 -- `commit::decide` meets its contract: the run on record is loaded and tested; kept, or the body run whole.
-use mathlib.Core.Path.{_≡_, refl, sym, ap, _∙_}
-use Prim.Native.Nat.{ℕ, _+_, _*_, _≤_, _<_, _-_, _^_}
+use mathlib.Core.Path.{_≡_, refl}
+use Prim.Native.Nat.{_-_}
 use native.Mathlib.Omega.{arith}
 use borrow.Author.Needs.{needs}
 use Rattle.operation.specs.Body.{registerCount}
 use Rattle.commit.specs.Walk.{row-ends, lent-readable, loaded-run, loaded-few}
-use Rattle.commit.specs.Decide.{Deciding, Decided, decide-there, body-begins, body-ends, lent-body, lent-some, lent-formed, decided-kept, decided-again}
+use Rattle.commit.specs.Decide.{decide-there, body-begins, body-ends, lent-some, lent-formed, decided-as, decided-kept, decided-again}
 use Rattle.commit.proofs.decide.Statement.{statement}
 use Rattle.commit.proofs.decide.Tie as tie
-use Rattle.commit.proofs.decide.Reads as reads
-use Rattle.commit.proofs.decide.Lts as lts
-use Rattle.commit.proofs.is_validated.Reads as is-validated-reads
-use Rattle.execution.proofs.run.Reads as run-reads
-use Rattle.layout.proofs.body_at.Reads as body-at-reads
-use Rattle.layout.proofs.row_at.Reads as row-at-reads
-use Rattle.layout.proofs.row_width.Reads as row-width-reads
-use Rattle.rows.proofs.load_row.Reads as load-row-reads
 
 four : 4 ≡ registerCount
 unfolding registerCount
@@ -114,10 +106,14 @@ is-validated-requires c κs =
     let p = b .pre .1 .0 in
     (loaded-few (b .args .l) (b .pre .0) (b .args .records .now) (p .replica) (p .holds) (b .args .position) (p .there) (c .before .before .before .before .before .before .before .before .before .before .before .before .before .row-at .result) (c .before .before .before .before .before .before .before .before .before .before .before .before .row-width .result) (c .before .before .before .before .before .before .before .before .before .before .before .before .before .row-at .ensures .exact) (c .before .before .before .before .before .before .before .before .before .before .before .before .row-width .ensures) (c .before .before .load-row .result) _ _ _ _ _ (c .before .before .load-row .ensures) (p .few) .0, lent-some (b .args .l) (b .pre .0) (b .args .records .now) (b .args .bodies .now) (b .args .position) (b .args .table .now) p (c .before .before .before .before .before .before .before .before .before .before .before .body-at .result) (c .before .before .before .before .before .before .before .before .before .before .before .body-at .ensures .exact) _ refl)
 
+decided-requires : tie.Need-decided-requires
+decided-requires c κs =
+    search needs
+
 returns : tie.Need-returns
 returns c =
-    let b = c .before .before .before .before .before .before .before .before .before .before .before .before .before .before .before .before .before .before in
-    λ p. decided-kept (b .args .l) (b .pre .0) (b .args .records .now) (b .args .bodies .now) (b .args .position) (b .args .table .now) p (c .before .before .before .before .before .before .before .before .before .before .before .before .before .body-at .result) (c .before .before .before .before .before .before .before .before .before .before .before .before .before .body-at .ensures .exact) _ refl (c .before .before .before .before .load-row .result) _ _ _ _ _ (loaded-run (b .args .l) (b .pre .0) (b .args .records .now) (p .replica) (p .holds) (b .args .position) (p .there) (c .before .before .before .before .before .before .before .before .before .before .before .before .before .before .before .row-at .result) (c .before .before .before .before .before .before .before .before .before .before .before .before .before .before .row-width .result) (c .before .before .before .before .before .before .before .before .before .before .before .before .before .before .before .row-at .ensures .exact) (c .before .before .before .before .before .before .before .before .before .before .before .before .before .before .row-width .ensures) (c .before .before .before .before .load-row .result) _ _ _ _ _ (c .before .before .before .before .load-row .ensures)) (c .before .is-validated .result) (c .before .is-validated .ensures) (c .if1 .taken)
+    let b = c .before .before .before .before .before .before .before .before .before .before .before .before .before .before .before .before .before .before .before in
+    λ p. decided-as _ _ (c .decided .ensures) (decided-kept (b .args .l) (b .pre .0) (b .args .records .now) (b .args .bodies .now) (b .args .position) (b .args .table .now) p (c .before .before .before .before .before .before .before .before .before .before .before .before .before .before .body-at .result) (c .before .before .before .before .before .before .before .before .before .before .before .before .before .before .body-at .ensures .exact) _ refl (c .before .before .before .before .before .load-row .result) _ _ _ _ _ (loaded-run (b .args .l) (b .pre .0) (b .args .records .now) (p .replica) (p .holds) (b .args .position) (p .there) (c .before .before .before .before .before .before .before .before .before .before .before .before .before .before .before .before .row-at .result) (c .before .before .before .before .before .before .before .before .before .before .before .before .before .before .before .row-width .result) (c .before .before .before .before .before .before .before .before .before .before .before .before .before .before .before .before .row-at .ensures .exact) (c .before .before .before .before .before .before .before .before .before .before .before .before .before .before .before .row-width .ensures) (c .before .before .before .before .before .load-row .result) _ _ _ _ _ (c .before .before .before .before .before .load-row .ensures)) (c .before .before .is-validated .result) (c .before .before .is-validated .ensures) (c .before .if1 .taken))
 
 run-requires : tie.Need-run-requires
 run-requires c κs =
@@ -126,10 +122,14 @@ run-requires c κs =
     let e = c .before .before .before .before .before .before .before .before .load-row .ensures in
     (lent-formed (b .args .l) (b .pre .0) (b .args .records .now) (b .args .bodies .now) (b .args .position) (b .args .table .now) p (c .before .before .before .before .before .before .before .before .before .before .before .before .before .before .before .before .before .body-at .result) (c .before .before .before .before .before .before .before .before .before .before .before .before .before .before .before .before .before .body-at .ensures .exact) _ refl, e .read-room, e .write-room)
 
+decided-requires-2 : tie.Need-decided-requires-2
+decided-requires-2 c κs =
+    search needs
+
 returns-2 : tie.Need-returns-2
 returns-2 c =
-    let b = c .before .before .before .before .before .before .before .before .before .before .before .before .before .before .before .before .before .before .before .before .before .before .before in
-    λ p. decided-again (b .args .l) (b .pre .0) (b .args .records .now) (b .args .bodies .now) (b .args .position) (b .args .table .now) p (c .before .before .before .before .before .before .before .before .before .before .before .before .before .before .before .before .before .before .body-at .result) (c .before .before .before .before .before .before .before .before .before .before .before .before .before .before .before .before .before .before .body-at .ensures .exact) _ refl (c .before .before .before .before .before .before .before .before .before .load-row .result) _ _ _ _ _ (loaded-run (b .args .l) (b .pre .0) (b .args .records .now) (p .replica) (p .holds) (b .args .position) (p .there) (c .before .before .before .before .before .before .before .before .before .before .before .before .before .before .before .before .before .before .before .before .row-at .result) (c .before .before .before .before .before .before .before .before .before .before .before .before .before .before .before .before .before .before .before .row-width .result) (c .before .before .before .before .before .before .before .before .before .before .before .before .before .before .before .before .before .before .before .before .row-at .ensures .exact) (c .before .before .before .before .before .before .before .before .before .before .before .before .before .before .before .before .before .before .before .row-width .ensures) (c .before .before .before .before .before .before .before .before .before .load-row .result) _ _ _ _ _ (c .before .before .before .before .before .before .before .before .before .load-row .ensures)) (c .before .before .before .before .before .before .is-validated .result) (c .before .before .before .before .before .before .is-validated .ensures) (c .before .before .before .before .before .if1 .left) (c .run .result) _ _ _ _ (c .run .ensures .0)
+    let b = c .before .before .before .before .before .before .before .before .before .before .before .before .before .before .before .before .before .before .before .before .before .before .before .before in
+    λ p. decided-as _ _ (c .decided2 .ensures) (decided-again (b .args .l) (b .pre .0) (b .args .records .now) (b .args .bodies .now) (b .args .position) (b .args .table .now) p (c .before .before .before .before .before .before .before .before .before .before .before .before .before .before .before .before .before .before .before .body-at .result) (c .before .before .before .before .before .before .before .before .before .before .before .before .before .before .before .before .before .before .before .body-at .ensures .exact) _ refl (c .before .before .before .before .before .before .before .before .before .before .load-row .result) _ _ _ _ _ (loaded-run (b .args .l) (b .pre .0) (b .args .records .now) (p .replica) (p .holds) (b .args .position) (p .there) (c .before .before .before .before .before .before .before .before .before .before .before .before .before .before .before .before .before .before .before .before .before .row-at .result) (c .before .before .before .before .before .before .before .before .before .before .before .before .before .before .before .before .before .before .before .before .row-width .result) (c .before .before .before .before .before .before .before .before .before .before .before .before .before .before .before .before .before .before .before .before .before .row-at .ensures .exact) (c .before .before .before .before .before .before .before .before .before .before .before .before .before .before .before .before .before .before .before .before .row-width .ensures) (c .before .before .before .before .before .before .before .before .before .before .load-row .result) _ _ _ _ _ (c .before .before .before .before .before .before .before .before .before .before .load-row .ensures)) (c .before .before .before .before .before .before .before .is-validated .result) (c .before .before .before .before .before .before .before .is-validated .ensures) (c .before .before .before .before .before .before .if1 .left) (c .before .run .result) _ _ _ _ (c .before .run .ensures .0))
 
 pub decide-spec : {M : Type 1} → statement M
 decide-spec =
@@ -154,6 +154,8 @@ decide-spec =
     part-load-row-end
     load-row-requires
     is-validated-requires
+    decided-requires
     returns
     run-requires
+    decided-requires-2
     returns-2)

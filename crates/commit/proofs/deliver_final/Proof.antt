@@ -1,6 +1,4 @@
 -- `commit::deliver_final` meets its contract: each refusal is a law's, and the commit is `commit_at`'s.
-use mathlib.Core.Path.{_≡_, refl, sym, ap, _∙_}
-use Prim.Native.Nat.{ℕ, _+_, _*_, _≤_, _<_}
 use native.Mathlib.Omega.{arith}
 use borrow.Author.Needs.{needs}
 use Rattle.layout.specs.Layout.{parse}
@@ -8,11 +6,6 @@ use Rattle.commit.specs.Install.{holds-length}
 use Rattle.commit.specs.Deliver.{refuse, fit-holds, fit-held, no-client, is-spent, is-missing, is-last, fit-found, final-answer}
 use Rattle.commit.proofs.deliver_final.Statement.{statement}
 use Rattle.commit.proofs.deliver_final.Tie as tie
-use Rattle.commit.proofs.deliver_final.Reads as reads
-use Rattle.commit.proofs.deliver_final.Lts as lts
-use Rattle.cells.proofs.get.Reads as get-reads
-use Rattle.commit.proofs.commit_at.Reads as commit-at-reads
-use Rattle.queue.proofs.locate.Reads as locate-reads
 
 returns : tie.Need-returns
 returns c =

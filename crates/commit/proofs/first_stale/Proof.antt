@@ -1,28 +1,16 @@
 -- `commit::first_stale` meets its contract. The invariant: those passed match, and the walk from here on with the table now is what is left.
-use mathlib.Core.Path.{_≡_, refl, sym, ap, _∙_, subst}
-use Prim.Native.Nat.{ℕ, _+_, _*_, _≤_, _<_, _-_, _^_}
+use mathlib.Core.Path.{_≡_, refl, _∙_}
+use Prim.Native.Nat.{_≤_, _<_, _-_}
 use native.Mathlib.Omega.{arith}
 use lib.ListN.{length}
-use lib.IntN.{ℤ}
 use borrow.Author.Needs.{needs}
 use Rattle.operation.specs.Body.{registerCount}
-use Rattle.execution.specs.Entries.{Entry}
-use Rattle.execution.specs.Shape.{every, sound}
-use Rattle.execution.specs.Arrays.{entries, Room}
+use Rattle.execution.specs.Arrays.{Room}
 use Rattle.commit.specs.Install.{holds-length}
 use Rattle.commit.specs.Restart.{count-read, few-pending}
 use Rattle.commit.specs.Walk.{Walking, Walked, row-ends, lent-readable, loaded-reads, loaded-writes, loaded-few, walked-start, walked-all, walked-stale, walked-next, writes-sound}
 use Rattle.commit.proofs.first_stale.Statement.{statement}
 use Rattle.commit.proofs.first_stale.Tie as tie
-use Rattle.commit.proofs.first_stale.Reads as reads
-use Rattle.commit.proofs.first_stale.Lts as lts
-use Rattle.cells.proofs.get.Reads as get-reads
-use Rattle.execution.proofs.matches.Reads as matches-reads
-use Rattle.execution.proofs.overlay.Reads as overlay-reads
-use Rattle.layout.proofs.pending_at.Reads as pending-at-reads
-use Rattle.layout.proofs.row_at.Reads as row-at-reads
-use Rattle.layout.proofs.row_width.Reads as row-width-reads
-use Rattle.rows.proofs.load_row.Reads as load-row-reads
 
 abbrev Inv-loop : tie.InvT-loop
 Inv-loop records l table₀ count width registers₀ ro₀ rv₀ wo₀ wv₀ i₀ table registers ro rv wo wv i =

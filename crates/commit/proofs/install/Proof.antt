@@ -1,20 +1,13 @@
 -- `commit::install` meets its contract. The invariant: the area holds the replica after the writes of the entries passed.
-use mathlib.Core.Path.{_≡_, refl, sym, ap, _∙_, subst}
-use Prim.Native.Nat.{ℕ, _+_, _*_, _≤_, _<_, _-_, _^_}
+use mathlib.Core.Path.{_≡_, refl, sym, _∙_, subst}
+use Prim.Native.Nat.{ℕ, _≤_, _-_}
 use native.Mathlib.Omega.{arith}
-use native.Mathlib.Nat.{le-antisymm}
-use lib.ListN.{length, getD, take, drop}
 use borrow.Author.Needs.{needs}
 use Rattle.execution.specs.Arrays.{entries}
 use Rattle.layout.specs.Holds.{Holds}
 use Rattle.commit.specs.Install.{Ready, installed, holds-length, install-start, object-there, block-inside, push-lent, push-ok, install-step}
 use Rattle.commit.proofs.install.Statement.{statement}
 use Rattle.commit.proofs.install.Tie as tie
-use Rattle.commit.proofs.install.Reads as reads
-use Rattle.commit.proofs.install.Lts as lts
-use Rattle.layout.proofs.object_at.Reads as object-at-reads
-use Rattle.layout.proofs.object_width.Reads as object-width-reads
-use Rattle.versions.proofs.push_version.Reads as push-version-reads
 
 abbrev Inv-loop : tie.InvT-loop
 Inv-loop records₀ readers l timestamp wo wv count width i₀ records i =

@@ -1,13 +1,8 @@
 -- `commit::is_validated` meets its contract: both tests, the second where the first holds.
-use mathlib.Core.Path.{_≡_, refl, sym, ap, ap₂, _∙_}
-use mathlib.Core.Bool.{Bool, _&&_}
+use mathlib.Core.Path.{sym, _∙_}
 use borrow.Author.Needs.{needs}
 use Rattle.commit.proofs.is_validated.Statement.{statement}
 use Rattle.commit.proofs.is_validated.Tie as tie
-use Rattle.commit.proofs.is_validated.Reads as reads
-use Rattle.commit.proofs.is_validated.Lts as lts
-use Rattle.execution.proofs.matches.Reads as matches-reads
-use Rattle.rows.proofs.is_finished.Reads as is-finished-reads
 
 is-finished-requires : tie.Need-is-finished-requires
 is-finished-requires c κs =

@@ -1,19 +1,12 @@
 -- `commit::leave` meets its contract: those that stay are closed up, and the places behind them cleared.
-use mathlib.Core.Path.{_≡_, refl, sym, ap, _∙_}
-use Prim.Native.Nat.{ℕ, _+_, _*_, _≤_, _<_, _-_, _^_}
+use Prim.Native.Nat.{_-_}
 use native.Mathlib.Omega.{arith}
 use borrow.Author.Needs.{needs}
 use Rattle.commit.specs.Install.{holds-length}
 use Rattle.commit.specs.Restart.{count-read}
-use Rattle.commit.specs.Leave.{Paired, counted, closed-clearing, closed}
+use Rattle.commit.specs.Leave.{counted, closed-clearing, closed}
 use Rattle.commit.proofs.leave.Statement.{statement}
 use Rattle.commit.proofs.leave.Tie as tie
-use Rattle.commit.proofs.leave.Reads as reads
-use Rattle.commit.proofs.leave.Lts as lts
-use Rattle.cells.proofs.get.Reads as get-reads
-use Rattle.commit.proofs.clear_from.Reads as clear-from-reads
-use Rattle.commit.proofs.close_up.Reads as close-up-reads
-use Rattle.layout.proofs.pending_at.Reads as pending-at-reads
 
 pending-at-requires : tie.Need-pending-at-requires
 pending-at-requires c κs =

@@ -1,13 +1,10 @@
 -- `commit::leaves` meets its contract: the client's keys are those from its first one on, up to the one with this number.
-use mathlib.Core.Path.{_≡_, refl, sym, ap, _∙_}
-use Prim.Native.Nat.{ℕ, _+_, _*_, _≤_, _<_, _-_, _^_}
+use Prim.Native.Nat.{_-_}
 use native.Mathlib.Omega.{arith}
 use borrow.Author.Needs.{needs}
 use Rattle.commit.specs.Leave.{leaves-from, leaves-before}
 use Rattle.commit.proofs.leaves.Statement.{statement}
 use Rattle.commit.proofs.leaves.Tie as tie
-use Rattle.commit.proofs.leaves.Reads as reads
-use Rattle.commit.proofs.leaves.Lts as lts
 
 mul-first : tie.Need-mul-first
 mul-first c =

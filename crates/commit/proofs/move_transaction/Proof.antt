@@ -1,18 +1,11 @@
 -- `commit::move_transaction` meets its contract: a transaction in its place stays there, else both moves are those of the laws.
-use mathlib.Core.Path.{_≡_, refl, sym, ap, _∙_}
-use Prim.Native.Nat.{ℕ, _+_, _*_, _≤_, _<_, _-_, _^_}
+use mathlib.Core.Path.{refl}
+use Prim.Native.Nat.{_-_}
 use native.Mathlib.Omega.{arith}
 use borrow.Author.Needs.{needs}
-use Rattle.commit.specs.Leave.{Moving, moving-there, moved-none, row-inside, body-inside, move-both}
+use Rattle.commit.specs.Leave.{moving-there, moved-none, row-inside, body-inside, move-both}
 use Rattle.commit.proofs.move_transaction.Statement.{statement}
 use Rattle.commit.proofs.move_transaction.Tie as tie
-use Rattle.commit.proofs.move_transaction.Reads as reads
-use Rattle.commit.proofs.move_transaction.Lts as lts
-use Rattle.cells.proofs.move_down.Reads as move-down-reads
-use Rattle.layout.proofs.body_at.Reads as body-at-reads
-use Rattle.layout.proofs.body_width.Reads as body-width-reads
-use Rattle.layout.proofs.row_at.Reads as row-at-reads
-use Rattle.layout.proofs.row_width.Reads as row-width-reads
 
 returns : tie.Need-returns
 returns c =

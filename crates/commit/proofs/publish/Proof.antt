@@ -1,17 +1,11 @@
 -- `commit::publish` meets its contract: the copy is the readers' cells, and `install` does the rest.
-use mathlib.Core.Path.{_≡_, refl, sym, ap, _∙_}
-use Prim.Native.Nat.{ℕ, _+_, _*_, _≤_, _<_, _-_, _^_}
-use native.Mathlib.Omega.{arith}
-use lib.ListN.{length, take, drop}
+use mathlib.Core.Path.{refl}
+use Prim.Native.Nat.{_*_, _-_}
 use borrow.Author.Needs.{needs}
 use Rattle.execution.specs.Arrays.{entries}
-use Rattle.commit.specs.Commit.{Publishing, readers-inside, copy-lent, copy-room, copy-prefix, copy-back, copy-ready}
+use Rattle.commit.specs.Commit.{readers-inside, copy-lent, copy-room, copy-prefix, copy-back, copy-ready}
 use Rattle.commit.proofs.publish.Statement.{statement}
 use Rattle.commit.proofs.publish.Tie as tie
-use Rattle.commit.proofs.publish.Reads as reads
-use Rattle.commit.proofs.publish.Lts as lts
-use Rattle.bytes.proofs.copy.Reads as copy-reads
-use Rattle.commit.proofs.install.Reads as install-reads
 
 mul-size : tie.Need-mul-size
 mul-size c =

@@ -1,18 +1,12 @@
 -- `commit::restart_from` meets its contract. The invariant: what is left to be sent back of the area now gives what is asked of the area at entry.
-use mathlib.Core.Path.{_≡_, refl, sym, ap, _∙_}
-use Prim.Native.Nat.{ℕ, _+_, _*_, _≤_, _<_, _-_}
+use mathlib.Core.Path.{sym, _∙_}
+use Prim.Native.Nat.{_-_}
 use native.Mathlib.Omega.{arith}
 use borrow.Author.Needs.{needs}
 use Rattle.commit.specs.Install.{holds-length}
 use Rattle.commit.specs.Restart.{Held, Restarting, count-read, restart-start, restart-end, restart-length, row-there, restart-inside, restart-step}
 use Rattle.commit.proofs.restart_from.Statement.{statement}
 use Rattle.commit.proofs.restart_from.Tie as tie
-use Rattle.commit.proofs.restart_from.Reads as reads
-use Rattle.commit.proofs.restart_from.Lts as lts
-use Rattle.cells.proofs.fill_zero.Reads as fill-zero-reads
-use Rattle.cells.proofs.get.Reads as get-reads
-use Rattle.layout.proofs.pending_at.Reads as pending-at-reads
-use Rattle.layout.proofs.row_at.Reads as row-at-reads
 
 abbrev Inv-loop : tie.InvT-loop
 Inv-loop records₀ l from count i₀ records i = (p : Held l records₀) → Restarting l records (p .replica) from count i

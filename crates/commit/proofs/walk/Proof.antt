@@ -1,12 +1,8 @@
 -- `commit::walk` meets its contract: from the first transaction that no longer matches on, all go back to their start.
 use borrow.Author.Needs.{needs}
-use Rattle.commit.specs.Walk.{Walking, walking-held, same-pending}
+use Rattle.commit.specs.Walk.{walking-held, same-pending}
 use Rattle.commit.proofs.walk.Statement.{statement}
 use Rattle.commit.proofs.walk.Tie as tie
-use Rattle.commit.proofs.walk.Reads as reads
-use Rattle.commit.proofs.walk.Lts as lts
-use Rattle.commit.proofs.first_stale.Reads as first-stale-reads
-use Rattle.commit.proofs.restart_from.Reads as restart-from-reads
 
 first-stale-requires : tie.Need-first-stale-requires
 first-stale-requires c κs =
