@@ -283,7 +283,7 @@ fn decide(
     if is_validated(table, body, &ro, &rv, t) {
         return decided(t, true);
     }
-    let w = execution::run(table, body, &mut ro, &mut rv, wo, wv);
+    let w = interpreter::run(table, body, &mut ro, &mut rv, wo, wv);
     decided(w, false)
 }
 

@@ -4,7 +4,5 @@ pub mod Agreement
 pub mod Shape
 pub mod Arrays
 pub mod Places
-pub mod Moves
-pub mod Budget
 pub mod Tables
 pub mod Examples

@@ -12,7 +12,7 @@ use Rattle.operation.specs.Body.{registerCount, operations, wellFormed}
 use Rattle.operation.specs.declared.Operation.{Operation}
 use Rattle.operation.specs.Laws.{formed}
 use Rattle.execution.specs.declared.Counts.{Counts}
-use Rattle.execution.specs.declared.Executed.{Executed}
+use Rattle.interpreter.specs.declared.Executed.{Executed}
 use Rattle.execution.specs.Run.{Table, tableOf, Run, is-none, due-at, ended, steps, counted, over}
 use Rattle.execution.specs.Agreement.{stay}
 use Rattle.execution.specs.Shape.{every, sound}

@@ -1,5 +1,5 @@
 // Work: operations of the first unfinished pending transaction, then of the next, in place on a replica's two areas.
-use execution::Executed;
+use interpreter::Executed;
 use model::Execution;
 use model::Limits;
 ghost use mathlib.Core.Path.{_≡_};
@@ -44,7 +44,7 @@ fn resume(
             used: 0,
         };
     }
-    let e = execution::execute(table, body, registers, ro, rv, wo, wv, from, budget);
+    let e = interpreter::execute(table, body, registers, ro, rv, wo, wv, from, budget);
     let t = e.counts;
     rows::store_row(row, t, registers, ro, rv, wo, wv);
     e

@@ -6,11 +6,11 @@ use lib.ListN.{length}
 use denote.Ref.{now}
 use Rattle.operation.specs.Body.{size, operationAt, operations}
 use Rattle.operation.specs.Laws.{Formed, formed, valid-at}
 use Rattle.execution.specs.Run.{Table, tableOf, move, Run}
 use Rattle.execution.specs.Arrays.{capacity, runOf, Room, Kept, Executes}
-use Rattle.execution.specs.Budget.{Going, going, at-end, spent, next, rewritten, apply-outcome, ended-stopped, ended-size, due-here, valid-more}
-use Rattle.execution.proofs.execute.Statement.{statement}
-use Rattle.execution.proofs.execute.Tie as tie
+use Rattle.interpreter.specs.Budget.{Going, going, at-end, spent, next, rewritten, apply-outcome, ended-stopped, ended-size, due-here, valid-more}
+use Rattle.interpreter.proofs.execute.Statement.{statement}
+use Rattle.interpreter.proofs.execute.Tie as tie
 
 abbrev Inv-loop : tie.InvT-loop
 Inv-loop table body registers₀ ro₀ rv₀ wo₀ wv₀ budget size t₀ used₀ registers ro rv wo wv t used =

@@ -6,11 +6,11 @@ use denote.Ref.{now}
 use borrow.Author.Needs.{needs}
 use Rattle.arith.specs.Laws.{read-back}
 use Rattle.operation.specs.Body.{registerCount, mostDivisor}
 use Rattle.execution.specs.Run.{tableOf, failed, register, move}
 use Rattle.execution.specs.Arrays.{capacity}
-use Rattle.execution.specs.Moves.{kept-advanced, kept-stopped, settled-sum, went, halted}
-use Rattle.execution.proofs.step.Statement.{statement}
-use Rattle.execution.proofs.step.Tie as tie
+use Rattle.effects.specs.Moves.{kept-advanced, kept-stopped, settled-sum, went, halted}
+use Rattle.interpreter.proofs.step.Statement.{statement}
+use Rattle.interpreter.proofs.step.Tie as tie
 
 -- ---- the limits of each kind
 

@@ -2,10 +2,10 @@
 use denote.Ref.{now}
 use borrow.Author.Needs.{needs}
 use Rattle.arith.specs.Laws.{read-back}
 use Rattle.execution.specs.Run.{overflowed}
-use Rattle.execution.specs.Moves.{kept-advanced, kept-stopped, went, halted}
-use Rattle.execution.proofs.settle.Statement.{statement}
-use Rattle.execution.proofs.settle.Tie as tie
+use Rattle.effects.specs.Moves.{kept-advanced, kept-stopped, went, halted}
+use Rattle.effects.proofs.settle.Statement.{statement}
+use Rattle.effects.proofs.settle.Tie as tie
 
 enum-known-x : tie.Need-enum-known-x
 enum-known-x c = search needs

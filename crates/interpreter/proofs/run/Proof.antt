@@ -5,11 +5,11 @@ use denote.Ref.{now}
 use borrow.Author.Needs.{needs}
 use Rattle.operation.specs.Body.{registerCount, listed, operations}
 use Rattle.operation.specs.Laws.{formed, length-operations}
 use Rattle.execution.specs.Run.{tableOf, start}
 use Rattle.execution.specs.Arrays.{capacity, entries}
-use Rattle.execution.specs.Budget.{run-whole}
-use Rattle.execution.proofs.run.Statement.{statement}
-use Rattle.execution.proofs.run.Tie as tie
+use Rattle.interpreter.specs.Budget.{run-whole}
+use Rattle.interpreter.proofs.run.Statement.{statement}
+use Rattle.interpreter.proofs.run.Tie as tie
 
 execute-requires : tie.Need-execute-requires
 execute-requires c κs = search needs
