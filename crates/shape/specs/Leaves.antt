@@ -17,7 +17,7 @@ use Rattle.model.specs.Calls.{clients}
 use Rattle.model.specs.ShapeCheck.{names-shaped, key-unspent}
 use Rattle.layout.specs.Rows.{chunks}
 use Rattle.layout.specs.Layout.{entry, key-of}
-use Rattle.shape.specs.Scan.{absent, names-in, key-in}
+use Rattle.row_shape.specs.Scan.{absent, names-in, key-in}
 
 -- two tests, each of which holds where the other does
 pub same : (a b : Bool) → (a ≡ true → b ≡ true) → (b ≡ true → a ≡ true) → a ≡ b

@@ -4,25 +4,10 @@ use mathlib.Core.List.{List}
 use Prim.Native.Nat.{ℕ, _*_, _≤_}
 use lib.ListN.{length}
 use Rattle.operation.specs.Columns.{mostOperations}
-use Rattle.model.specs.declared.Limits.{Limits}
-use Rattle.layout.specs.Offsets.{Sane, record-length}
-use Rattle.shape.specs.Scan.{cells-of, place-of}
-
--- a row of cells, the place of its body, and the last numbers
-pub record Row (most : ℕ) (row place lasts : List ℕ) : Type 0 where
-  pub row-cells : length row ≡ cells-of most * 8
-  pub place-bytes : length place ≡ place-of most
-  pub last-cells : length lasts ≡ 128
-  pub few : most ≤ mostOperations
+use Rattle.row_shape.specs.Scan.{cells-of}
 
 -- at least k rows, and the last numbers
 pub record Rows (most k : ℕ) (rows lasts : List ℕ) : Type 0 where
   pub row-cells : k * (cells-of most * 8) ≤ length rows
   pub last-cells : length lasts ≡ 128
   pub few : most ≤ mostOperations
-
--- the record area
-pub record Record (l : Limits) (area : List ℕ) : Type 0 where
-  pub sane : Sane l
-  pub few : l .operations ≤ mostOperations
-  pub whole : length area ≡ record-length l

@@ -20,7 +20,7 @@ use Rattle.layout.specs.Rows.{chunks}
 use Rattle.layout.specs.Layout.{reader-of, version, object}
 use Rattle.layout.specs.Offsets.{object-width}
 use Rattle.layout.specs.UncheckedRows as unchecked
-use Rattle.shape.specs.Scan.{below}
+use Rattle.object_shape.specs.Scan.{below}
 use Rattle.shape.specs.Leaves.{same}
 
 -- ---- readers

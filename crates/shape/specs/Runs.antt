@@ -26,7 +26,7 @@ use Rattle.layout.specs.RowLaws.{length-chunks}
 use Rattle.layout.specs.Tables.{map-take, map-drop}
 use Rattle.layout.specs.Layout.{entry, row}
 use Rattle.layout.specs.UncheckedRows.{row-ok, dec-counter, dec-outcome, dec-registers, dec-reads, dec-writes}
-use Rattle.shape.specs.Scan.{names-in, sets-in, begun-in, run-in}
+use Rattle.row_shape.specs.Scan.{names-in, sets-in, begun-in, run-in}
 use Rattle.shape.specs.Leaves.{same, names-are}
 
 -- ---- a row taken apart

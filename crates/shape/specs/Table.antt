@@ -25,7 +25,8 @@ use Rattle.model.specs.ShapeCheck.{key-unspent, at-start, at-start-says, names-
 use Rattle.layout.specs.Rows.{chunks}
 use Rattle.layout.specs.Layout.{key-of, row, body, body-length, pending-from, all-from}
 use Rattle.layout.specs.UncheckedRows.{dec-key, dec-counter, dec-outcome}
-use Rattle.shape.specs.Scan.{absent, key-in, body-end, body-in, run-in, row-in, cells-of, place-of, next-in, finished-in, rows-in}
+use Rattle.row_shape.specs.Scan.{absent, key-in, body-end, body-in, run-in, row-in, cells-of, place-of}
+use Rattle.shape.specs.Scan.{next-in, finished-in, rows-in}
 use Rattle.shape.specs.Leaves.{same, key-same, key-is}
 use Rattle.shape.specs.Runs.{row-size, run-is}
 

@@ -8,8 +8,10 @@ use lib.ListN.{length, take, drop, length-drop}
 use lib.Seq.{take-all, drop-drop}
 use Rattle.cells.specs.Cells.{cells}
 use Rattle.cells.specs.Laws.{cells-drop}
-use Rattle.shape.specs.Scan.{cells-of, place-of, next-in, finished-in, rows-in}
-use Rattle.shape.specs.Steps.{less-times, rows-on, rows-no, rows-end}
+use Rattle.row_shape.specs.Scan.{cells-of, place-of}
+use Rattle.shape.specs.Scan.{next-in, finished-in, rows-in}
+use Rattle.row_shape.specs.Steps.{less-times}
+use Rattle.shape.specs.Steps.{rows-on, rows-no, rows-end}
 
 -- left rows are left, from byte at on, and their bodies from byte from on; finished says whether all before are finished
 pub record Walk (most n count : ℕ) (lasts rows places : List ℕ) (at from left : ℕ) (finished : Bool) : Type 0 where

@@ -33,7 +33,8 @@ use Rattle.layout.specs.Fields.{sizes}
 use Rattle.layout.specs.Unchecked.{chunks-take, size-in, pending-in, blocks-in, laid-is, parsed-timestamp, parsed-lasts, parsed-readers, parsed-objects, parsed-pending}
 use Rattle.layout.specs.Fit.{fit}
 use Rattle.layout.specs.Core.{core, fit-core}
-use Rattle.shape.specs.Scan.{below, readers-of, lasts-of, rows-in, header-in, objects-in, pending-part, scan}
+use Rattle.object_shape.specs.Scan.{below, readers-of, lasts-of, header-in, objects-in}
+use Rattle.shape.specs.Scan.{rows-in, pending-part, scan}
 use Rattle.shape.specs.Leaves.{same}
 use Rattle.shape.specs.Table.{transactions-in, Asked, rows-say}
 use Rattle.shape.specs.Objects.{readers-are, blocks-are}

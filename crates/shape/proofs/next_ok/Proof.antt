@@ -9,8 +9,9 @@ use borrow.Author.Needs.{needs}
 use Rattle.cells.specs.Cells.{cells}
 use Rattle.cells.specs.Laws.{cells-take}
 use Rattle.layout.specs.Rows.{chunks}
-use Rattle.shape.specs.Scan.{absent, row-in, cells-of}
-use Rattle.shape.specs.Steps.{rest-cells, one-more, next-row, next-order, next-key}
+use Rattle.row_shape.specs.Scan.{absent, row-in, cells-of}
+use Rattle.row_shape.specs.Steps.{rest-cells}
+use Rattle.shape.specs.Steps.{one-more, next-row, next-order, next-key}
 use Rattle.shape.proofs.next_ok.Statement.{statement}
 use Rattle.shape.proofs.next_ok.Tie as tie
 

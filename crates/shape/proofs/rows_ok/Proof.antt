@@ -4,8 +4,9 @@ use Prim.Native.Nat.{_-_, _*_}
 use native.Mathlib.Omega.{arith}
 use lib.ListN.{length-take, length-drop}
 use borrow.Author.Needs.{needs}
-use Rattle.shape.specs.Scan.{cells-of, place-of}
-use Rattle.shape.specs.Steps.{less-times, one-more}
+use Rattle.row_shape.specs.Scan.{cells-of, place-of}
+use Rattle.row_shape.specs.Steps.{less-times}
+use Rattle.shape.specs.Steps.{one-more}
 use Rattle.shape.specs.Walk.{Walk, walk-on, walk-no, walk-end}
 use Rattle.shape.proofs.rows_ok.Statement.{statement}
 use Rattle.shape.proofs.rows_ok.Tie as tie

@@ -1,11 +1,11 @@
--- `shape::row_ok` meets its contract: a law for each answer.
+-- `row_shape::row_ok` meets its contract: a law for each answer.
 use mathlib.Core.Path.{sym, _∙_}
 use native.Mathlib.Omega.{arith}
 use borrow.Author.Needs.{needs}
 use Rattle.cells.specs.Cells.{cells}
-use Rattle.shape.specs.Steps.{body-most, row-key, row-body, row-run}
-use Rattle.shape.proofs.row_ok.Statement.{statement}
-use Rattle.shape.proofs.row_ok.Tie as tie
+use Rattle.row_shape.specs.Steps.{body-most, row-key, row-body, row-run}
+use Rattle.row_shape.proofs.row_ok.Statement.{statement}
+use Rattle.row_shape.proofs.row_ok.Tie as tie
 
 get-requires : tie.Need-get-requires
 get-requires c κs = search needs

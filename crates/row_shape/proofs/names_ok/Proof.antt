@@ -1,4 +1,4 @@
--- `shape::names_ok` meets its contract. Invariant: the answer is that of the entries left, from cell at on. The measure is their number.
+-- `row_shape::names_ok` meets its contract. Invariant: the answer is that of the entries left, from cell at on. The measure is their number.
 use mathlib.Core.Path.{_≡_, refl, sym, ap, _∙_}
 use mathlib.Core.List.{List}
 use Prim.Native.Nat.{ℕ, _+_, _*_, _-_}
@@ -7,10 +7,10 @@ use lib.ListN.{drop, length-take, length-drop}
 use borrow.Author.Needs.{needs}
 use Rattle.cells.specs.Cells.{cells}
 use Rattle.layout.specs.Rows.{chunks}
-use Rattle.shape.specs.Scan.{absent, names-in}
-use Rattle.shape.specs.Steps.{rest-cells, names-high, names-twice, names-on, names-end}
-use Rattle.shape.proofs.names_ok.Statement.{statement}
-use Rattle.shape.proofs.names_ok.Tie as tie
+use Rattle.row_shape.specs.Scan.{absent, names-in}
+use Rattle.row_shape.specs.Steps.{rest-cells, names-high, names-twice, names-on, names-end}
+use Rattle.row_shape.proofs.names_ok.Statement.{statement}
+use Rattle.row_shape.proofs.names_ok.Tie as tie
 
 abbrev Inv-loop : tie.InvT-loop
 Inv-loop entries count n at₀ left₀ at left = (at + left * 2 ≡ count * 2) × (names-in n count (cells entries) ≡ names-in n left (drop at (cells entries)))

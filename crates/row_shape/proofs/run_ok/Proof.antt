@@ -1,14 +1,14 @@
--- `shape::run_ok` meets its contract: its tests, in the order of the code, are those of the definition.
+-- `row_shape::run_ok` meets its contract: its tests, in the order of the code, are those of the definition.
 use mathlib.Core.Path.{_≡_, sym, _∙_}
 use mathlib.Core.Bool.{_&&_, _||_}
 use lib.Dec.{eqb, leb}
 use borrow.Author.Needs.{needs}
 use borrow.Author.Tests.{le-leb, lt-leb}
 use Rattle.cells.specs.Cells.{cells}
-use Rattle.shape.specs.Scan.{sets-in, run-in, cells-of}
-use Rattle.shape.specs.Steps.{zeros-rest, run-start, run-begun}
-use Rattle.shape.proofs.run_ok.Statement.{statement}
-use Rattle.shape.proofs.run_ok.Tie as tie
+use Rattle.row_shape.specs.Scan.{sets-in, run-in, cells-of}
+use Rattle.row_shape.specs.Steps.{zeros-rest, run-start, run-begun}
+use Rattle.row_shape.proofs.run_ok.Statement.{statement}
+use Rattle.row_shape.proofs.run_ok.Tie as tie
 
 tests : (c : tie.After-get4) → (let a = c .before .before .before .before .before .before .args in let k = c .before .before .before .before .get .result in let o = c .before .before .get2 .result in let r = c .before .get3 .result in let b = c .get4 .result in run-in (a .n) (a .m) (cells (a .row .now)) ≡ leb k (a .m) && (leb o 2 && (leb b k && (leb r b && ((eqb o 0 || eqb r b) && sets-in (a .n) r b (cells (a .row .now)))))))
 tests c =

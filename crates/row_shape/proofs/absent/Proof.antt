@@ -1,4 +1,4 @@
--- `shape::absent` meets its contract. Invariant: the answer is that of the blocks left, from cell at on. The measure is their number.
+-- `row_shape::absent` meets its contract. Invariant: the answer is that of the blocks left, from cell at on. The measure is their number.
 use mathlib.Core.Path.{_≡_, refl, sym, _∙_}
 use Prim.Native.Nat.{_+_, _*_}
 use native.Mathlib.Omega.{arith}
@@ -6,10 +6,10 @@ use lib.ListN.{drop}
 use borrow.Author.Needs.{needs}
 use Rattle.cells.specs.Cells.{cells}
 use Rattle.layout.specs.Rows.{chunks}
-use Rattle.shape.specs.Scan.{absent}
-use Rattle.shape.specs.Steps.{less-times, absent-on, absent-no, absent-end}
-use Rattle.shape.proofs.absent.Statement.{statement}
-use Rattle.shape.proofs.absent.Tie as tie
+use Rattle.row_shape.specs.Scan.{absent}
+use Rattle.row_shape.specs.Steps.{less-times, absent-on, absent-no, absent-end}
+use Rattle.row_shape.proofs.absent.Statement.{statement}
+use Rattle.row_shape.proofs.absent.Tie as tie
 
 abbrev Inv-loop : tie.InvT-loop
 Inv-loop area width count key at₀ left₀ at left = (at + left * width ≡ count * width) × (absent key (chunks width count (cells area)) ≡ absent key (chunks width left (drop at (cells area))))

@@ -1,7 +1,7 @@
--- `shape::stopped_ok` meets its contract: rewriting with the test.
+-- `row_shape::stopped_ok` meets its contract: rewriting with the test.
 use borrow.Author.Tests.{eq-eqb, ne-eqb}
-use Rattle.shape.proofs.stopped_ok.Statement.{statement}
-use Rattle.shape.proofs.stopped_ok.Tie as tie
+use Rattle.row_shape.proofs.stopped_ok.Statement.{statement}
+use Rattle.row_shape.proofs.stopped_ok.Tie as tie
 
 returns : tie.Need-returns
 returns c = simp (eq-eqb _ _ (c .if1 .taken))

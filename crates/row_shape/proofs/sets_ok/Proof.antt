@@ -1,13 +1,13 @@
--- `shape::sets_ok` meets its contract: a law for each answer.
+-- `row_shape::sets_ok` meets its contract: a law for each answer.
 use mathlib.Core.Path.{ap, _∙_}
 use mathlib.Core.List.{List}
 use Prim.Native.Nat.{ℕ, _+_, _*_, _-_}
 use borrow.Author.Needs.{needs}
 use Rattle.cells.specs.Cells.{cells}
-use Rattle.shape.specs.Scan.{names-in, cells-of}
-use Rattle.shape.specs.Steps.{rest-cells, zeros-rest, sets-reads, sets-writes, sets-behind}
-use Rattle.shape.proofs.sets_ok.Statement.{statement}
-use Rattle.shape.proofs.sets_ok.Tie as tie
+use Rattle.row_shape.specs.Scan.{names-in, cells-of}
+use Rattle.row_shape.specs.Steps.{rest-cells, zeros-rest, sets-reads, sets-writes, sets-behind}
+use Rattle.row_shape.proofs.sets_ok.Statement.{statement}
+use Rattle.row_shape.proofs.sets_ok.Tie as tie
 
 mul-writes : tie.Need-mul-writes
 mul-writes c = search needs

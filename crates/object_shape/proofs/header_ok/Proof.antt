@@ -1,8 +1,8 @@
--- `shape::header_ok` meets its contract: a law for each answer.
+-- `object_shape::header_ok` meets its contract: a law for each answer.
 use borrow.Author.Needs.{needs}
-use Rattle.shape.specs.Parts.{header-late, header-lasts, header-readers}
-use Rattle.shape.proofs.header_ok.Statement.{statement}
-use Rattle.shape.proofs.header_ok.Tie as tie
+use Rattle.object_shape.specs.Parts.{header-late, header-lasts, header-readers}
+use Rattle.object_shape.proofs.header_ok.Statement.{statement}
+use Rattle.object_shape.proofs.header_ok.Tie as tie
 
 get-requires : tie.Need-get-requires
 get-requires c κs = search needs

@@ -1,11 +1,11 @@
--- `shape::body_ok` meets its contract: a law for each answer.
+-- `row_shape::body_ok` meets its contract: a law for each answer.
 use mathlib.Core.Path.{sym, _∙_}
 use Prim.Native.Nat.{_+_, _*_}
 use lib.Seq.{length-take-le}
 use borrow.Author.Needs.{needs}
-use Rattle.shape.specs.Steps.{body-short, body-bad, body-good}
-use Rattle.shape.proofs.body_ok.Statement.{statement}
-use Rattle.shape.proofs.body_ok.Tie as tie
+use Rattle.row_shape.specs.Steps.{body-short, body-bad, body-good}
+use Rattle.row_shape.proofs.body_ok.Statement.{statement}
+use Rattle.row_shape.proofs.body_ok.Tie as tie
 
 shared-slice-read-small : tie.Need-shared-slice-read-small
 shared-slice-read-small c = search needs

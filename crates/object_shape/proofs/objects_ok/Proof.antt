@@ -1,4 +1,4 @@
--- `shape::objects_ok` meets its contract: a law for each answer.
+-- `object_shape::objects_ok` meets its contract: a law for each answer.
 use mathlib.Core.Path.{_≡_}
 use Prim.Native.Nat.{_*_, _-_}
 use native.Mathlib.Nat.{mul-le-mul-right}
@@ -8,9 +8,9 @@ use borrow.Author.Needs.{needs}
 use Rattle.model.specs.Calls.{lastTimestamp}
 use Rattle.layout.specs.Offsets.{object-width}
 use Rattle.layout.specs.OffsetLaws.{object-span}
-use Rattle.shape.specs.Parts.{objects-none, objects-many, objects-versions, objects-behind}
-use Rattle.shape.proofs.objects_ok.Statement.{statement}
-use Rattle.shape.proofs.objects_ok.Tie as tie
+use Rattle.object_shape.specs.Parts.{objects-none, objects-many, objects-versions, objects-behind}
+use Rattle.object_shape.proofs.objects_ok.Statement.{statement}
+use Rattle.object_shape.proofs.objects_ok.Tie as tie
 
 add-get : tie.Need-add-get
 add-get c = search needs

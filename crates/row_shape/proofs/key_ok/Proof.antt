@@ -1,10 +1,10 @@
--- `shape::key_ok` meets its contract: a law for each answer.
+-- `row_shape::key_ok` meets its contract: a law for each answer.
 use mathlib.Core.Path.{sym}
 use borrow.Author.Needs.{needs}
 use Rattle.cells.specs.Cells.{cells}
-use Rattle.shape.specs.Steps.{key-high, key-low}
-use Rattle.shape.proofs.key_ok.Statement.{statement}
-use Rattle.shape.proofs.key_ok.Tie as tie
+use Rattle.row_shape.specs.Steps.{key-high, key-low}
+use Rattle.row_shape.proofs.key_ok.Statement.{statement}
+use Rattle.row_shape.proofs.key_ok.Tie as tie
 
 returns : tie.Need-returns
 returns c = let a = c .before .before .args in sym (key-high (cells (a .lasts .now)) (a .key) (c .if1 .taken))

@@ -1,13 +1,13 @@
--- `shape::all_below` meets its contract. Invariant: the answer is that of the cells from i on. The measure is their number.
+-- `object_shape::all_below` meets its contract. Invariant: the answer is that of the cells from i on. The measure is their number.
 use mathlib.Core.Path.{_≡_, refl, sym, _∙_}
 use Prim.Native.Nat.{_≤_, _-_}
 use lib.ListN.{drop}
 use borrow.Author.Needs.{needs}
 use Rattle.cells.specs.Cells.{cells}
-use Rattle.shape.specs.Scan.{below}
-use Rattle.shape.specs.Steps.{below-on, below-no, below-end}
-use Rattle.shape.proofs.all_below.Statement.{statement}
-use Rattle.shape.proofs.all_below.Tie as tie
+use Rattle.object_shape.specs.Scan.{below}
+use Rattle.object_shape.specs.Steps.{below-on, below-no, below-end}
+use Rattle.object_shape.proofs.all_below.Statement.{statement}
+use Rattle.object_shape.proofs.all_below.Tie as tie
 
 abbrev Inv-loop : tie.InvT-loop
 Inv-loop area count bound i₀ i = (i ≤ count) × (below bound (cells area) ≡ below bound (drop i (cells area)))
