@@ -59,7 +59,7 @@ pub fn objects_ok(area: &[u8], l: Limits) -> bool
     let end = layout::object_at(l, n) * 8;
     let behind = layout::pending_at(l) * 8;
     let last = (17 + readers) * 8;
-    if versions::objects_ok(&area[first..end], &area[136..last], readers, n, timestamp) {
+    if version_shape::objects_ok(&area[first..end], &area[136..last], readers, n, timestamp) {
         return cells::all_zero(area, end, behind);
     }
     false

@@ -1,11 +1,11 @@
--- `versions::block_ok` meets its contract: with one version a law for each branch, else by `block_ok_general`.
+-- `version_shape::block_ok` meets its contract: with one version a law for each branch, else by `block_ok_general`.
 use mathlib.Core.Path.{sym}
 use native.Mathlib.Omega.{arith}
 use borrow.Author.Needs.{needs}
 use Rattle.cells.specs.Cells.{cells}
 use Rattle.versions.specs.Steps.{ok-single, ok-single-no}
-use Rattle.versions.proofs.block_ok.Statement.{statement}
-use Rattle.versions.proofs.block_ok.Tie as tie
+use Rattle.version_shape.proofs.block_ok.Statement.{statement}
+use Rattle.version_shape.proofs.block_ok.Tie as tie
 
 get-requires : tie.Need-get-requires
 get-requires c κs = search needs

@@ -1,14 +1,14 @@
--- `versions::chain_ok` meets its contract. Invariant: the answer is that of the versions left, from cell k on, after one of stamp upper.
+-- `version_shape::chain_ok` meets its contract. Invariant: the answer is that of the versions left, from cell k on, after one of stamp upper.
 -- The measure is the number of versions left.
 use mathlib.Core.Path.{_≡_, _∙_, ap, sym}
 use Prim.Native.Nat.{ℕ, _+_, _*_, _<_, _-_}
 use lib.ListN.{getD, drop}
 use borrow.Author.Needs.{needs}
 use Rattle.cells.specs.Cells.{cells}
 use Rattle.versions.specs.Steps.{chain-loose, chain-next, chain-end}
 use Rattle.versions.specs.Block.{versions-in, chain}
-use Rattle.versions.proofs.chain_ok.Statement.{statement}
-use Rattle.versions.proofs.chain_ok.Tie as tie
+use Rattle.version_shape.proofs.chain_ok.Statement.{statement}
+use Rattle.version_shape.proofs.chain_ok.Tie as tie
 
 abbrev Inv-loop : tie.InvT-loop
 Inv-loop block snapshots readers count low upper₀ k₀ left₀ upper k left = (left < count) × (k + 2 * left ≡ 1 + 2 * count) × (chain (cells snapshots) low (getD (cells block) 1 0) (versions-in (count - 1) (drop 3 (cells block))) ≡ chain (cells snapshots) low upper (versions-in left (drop k (cells block))))

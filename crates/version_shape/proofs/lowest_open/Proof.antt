@@ -1,13 +1,13 @@
--- `versions::lowest_open` meets its contract. Invariant: the answer is that of the readers from i on, from low. The measure is their number.
+-- `version_shape::lowest_open` meets its contract. Invariant: the answer is that of the readers from i on, from low. The measure is their number.
 use mathlib.Core.Path.{_≡_, refl, _∙_, ap, sym}
 use Prim.Native.Nat.{ℕ, _+_, _≤_, _-_}
 use lib.ListN.{drop}
 use borrow.Author.Needs.{needs}
 use Rattle.cells.specs.Cells.{cells}
 use Rattle.versions.specs.Steps.{lowest-step, lowest-end}
 use Rattle.versions.specs.Block.{lowest}
-use Rattle.versions.proofs.lowest_open.Statement.{statement}
-use Rattle.versions.proofs.lowest_open.Tie as tie
+use Rattle.version_shape.proofs.lowest_open.Statement.{statement}
+use Rattle.version_shape.proofs.lowest_open.Tie as tie
 
 abbrev Inv-loop : tie.InvT-loop
 Inv-loop snapshots readers top low₀ i₀ low i = (i ≤ readers) × (lowest top (cells snapshots) ≡ lowest low (drop i (cells snapshots)))

@@ -1,8 +1,8 @@
--- `versions::lower_of` meets its contract, by its three branches.
+-- `version_shape::lower_of` meets its contract, by its three branches.
 use borrow.Author.Needs.{needs}
 use Rattle.versions.specs.Steps.{lower-yes, lower-no, lower-closed}
-use Rattle.versions.proofs.lower_of.Statement.{statement}
-use Rattle.versions.proofs.lower_of.Tie as tie
+use Rattle.version_shape.proofs.lower_of.Statement.{statement}
+use Rattle.version_shape.proofs.lower_of.Tie as tie
 
 returns : tie.Need-returns
 returns c = lower-yes _ _ (search needs) (search needs)

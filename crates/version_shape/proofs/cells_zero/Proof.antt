@@ -1,4 +1,4 @@
--- `versions::cells_zero` meets its contract: the answer is whether what was seen is 0 and what is left is zeros. The measure is what is left.
+-- `version_shape::cells_zero` meets its contract: the answer is whether what was seen is 0 and what is left is zeros. The measure is what is left.
 use mathlib.Core.Bool.{_&&_}
 use mathlib.Core.Path.{_≡_, refl, _∙_, sym}
 use Prim.Native.Nat.{_≤_, _-_}
@@ -9,8 +9,8 @@ use borrow.Author.Needs.{needs}
 use Rattle.cells.specs.Zeros.{zeros, scan-step, scan-done}
 use Rattle.cells.specs.Laws.{length-cells}
 use Rattle.cells.specs.Cells.{cells}
-use Rattle.versions.proofs.cells_zero.Statement.{statement}
-use Rattle.versions.proofs.cells_zero.Tie as tie
+use Rattle.version_shape.proofs.cells_zero.Statement.{statement}
+use Rattle.version_shape.proofs.cells_zero.Tie as tie
 
 abbrev Inv-loop : tie.InvT-loop
 Inv-loop area from to seen₀ i₀ seen i = (from ≤ i) × (i ≤ to) × (zeros (slice from to (cells area)) ≡ eqb seen 0 && zeros (slice i to (cells area)))

@@ -1,11 +1,11 @@
--- `versions::block_ok_general` meets its contract: one law for each branch.
+-- `version_shape::block_ok_general` meets its contract: one law for each branch.
 use mathlib.Core.Path.{_∙_, sym}
 use native.Mathlib.Omega.{arith}
 use borrow.Author.Needs.{needs}
 use Rattle.cells.specs.Cells.{cells}
 use Rattle.versions.specs.Steps.{ok-none, ok-many, ok-late, ok-used, ok-chain}
-use Rattle.versions.proofs.block_ok_general.Statement.{statement}
-use Rattle.versions.proofs.block_ok_general.Tie as tie
+use Rattle.version_shape.proofs.block_ok_general.Statement.{statement}
+use Rattle.version_shape.proofs.block_ok_general.Tie as tie
 
 get-requires : tie.Need-get-requires
 get-requires c κs = search needs

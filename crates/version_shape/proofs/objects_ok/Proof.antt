@@ -1,14 +1,14 @@
--- `versions::objects_ok` meets its contract. Invariant: the answer is that of the blocks left, from byte at on. The measure is their number.
+-- `version_shape::objects_ok` meets its contract. Invariant: the answer is that of the blocks left, from byte at on. The measure is their number.
 use mathlib.Core.Path.{_≡_, refl, _∙_, sym}
 use Prim.Native.Nat.{_+_, _*_, _-_}
 use native.Mathlib.Omega.{arith}
 use lib.ListN.{length-take, length-drop, length, drop}
 use borrow.Author.Needs.{needs}
 use Rattle.cells.specs.Cells.{cells}
 use Rattle.versions.specs.Steps.{less-times, blocks-no, blocks-next, blocks-end}
 use Rattle.versions.specs.Block.{width, blocks-ok}
-use Rattle.versions.proofs.objects_ok.Statement.{statement}
-use Rattle.versions.proofs.objects_ok.Tie as tie
+use Rattle.version_shape.proofs.objects_ok.Statement.{statement}
+use Rattle.version_shape.proofs.objects_ok.Tie as tie
 
 abbrev Inv-loop : tie.InvT-loop
 Inv-loop blocks snapshots readers n timestamp low w at₀ left₀ at left = (at + left * w ≡ length blocks) × (blocks-ok readers timestamp (cells snapshots) n (cells blocks) ≡ blocks-ok readers timestamp (cells snapshots) left (cells (drop at blocks)))
