@@ -6,7 +6,8 @@ use mathlib.Core.List.{List, [], _∷_, _++_}
 use native.Mathlib.Omega.{arith}
 use lib.ListN.{length, take, drop, set, replicate, replicate-append-replicate}
 use lib.Seq.{take-nil, drop-nil, take-append-add, drop-append-add}
-use Rattle.cells.specs.Cells.{bytes, uncells, splice, putCell}
+use Rattle.words.specs.Words.{bytes}
+use Rattle.cells.specs.Cells.{uncells, splice, putCell}
 use Rattle.cells.specs.Splice.{splice-one}
 
 -- one cell more

@@ -11,7 +11,8 @@ use lib.Dec.{eqb, eqb·suc-zero}
 use lib.ListN.{length, take, drop, getD, replicate, length-drop, take-append-drop}
 use lib.Seq.{slice, slice-cons, slice-empty, length-slice}
 use borrow.Author.Tests.{ne-eqb}
-use Rattle.cells.specs.Cells.{word, cellsOf, cells}
+use Rattle.words.specs.Words.{word}
+use Rattle.cells.specs.Cells.{cellsOf, cells}
 use Rattle.cells.specs.Laws.{cells-slice}
 
 abbrev pub zeros : List ℕ → Bool

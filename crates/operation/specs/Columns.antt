@@ -10,7 +10,7 @@ use native.Mathlib.Omega.{arith}
 use lib.ListN.{length, getD, List·getD-eq-default}
 use lib.Dec.{ltb, leb, eqb, leb·zero, leb·suc-zero, leb·suc-suc, eqb·suc-zero}
 use borrow.Author.Tests.{leb-true, leb-false, le-leb, lt-leb}
-use Rattle.cells.specs.Cells.{loaded}
+use Rattle.words.specs.Words.{loaded}
 use Rattle.operation.specs.Body.{registerCount, longestSkip, mostDivisor, size, kindAt, firstAt, secondAt, rules, allowed, allowedAt, each, wellFormed}
 
 -- No limit may allow more operations than this: a skip that does not reach past the end is then at most 15 long.

@@ -48,7 +48,7 @@ fn each_allowed(body: &[u8], m: usize, objects: usize) -> bool
         }
         let first = small(body[2 + 3 * i]);
         let second = small(body[3 + 3 * i]);
-        let constant = cells::load(body, 1 + 3 * m + 8 * i);
+        let constant = words::load(body, 1 + 3 * m + 8 * i);
         let from = second_from[kind];
         let allowed = (first < first_below[kind])
             & (from <= second)
@@ -101,11 +101,11 @@ pub fn operation_at(body: &[u8], i: usize) -> Operation
     match kind {
         0 => Operation::Load(first, second),
         1 => Operation::Store(first, second),
-        2 => Operation::Set(first, cells::signed(cells::load(body, at))),
+        2 => Operation::Set(first, cells::signed(words::load(body, at))),
         3 => Operation::Add(first, second),
         4 => Operation::Subtract(first, second),
         5 => Operation::Skip(first, second),
         6 => Operation::Fail,
-        _ => Operation::Divide(first, cells::load(body, at)),
+        _ => Operation::Divide(first, words::load(body, at)),
     }
 }

@@ -8,7 +8,7 @@ use mir.Syntax.{w64}
 use mir.Val.{toZ}
 use denote.Ref.{now}
 use borrow.Author.Needs.{needs}
-use Rattle.cells.specs.Cells.{loaded}
+use Rattle.words.specs.Words.{loaded}
 use Rattle.cells.specs.Signed.{told}
 use Rattle.operation.specs.declared.Operation.the-variants.{Set, Divide}
 use Rattle.operation.specs.Body.{operationOf, operationAt, constantAt}
