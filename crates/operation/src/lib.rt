@@ -1,9 +1,8 @@
-// A transaction's body (document 01, "A job's body"): its operations, decoded from bytes, and the check of its rules.
+// The operations of a transaction's body (document 01, "A job's body"): their kinds, their rules, and one operation decoded from the bytes of a body.
 ghost use mathlib.Core.Path.{_≡_};
-ghost use Prim.Native.Nat.{_+_, _*_, _≤_, _<_};
+ghost use Prim.Native.Nat.{_+_, _*_, _<_};
 ghost use lib.ListN.{length};
-ghost use Rattle.operation.specs.Body.{size, operationAt, allowedAt, each, decoded};
-ghost use Rattle.operation.specs.Columns.{mostOperations};
+ghost use Rattle.operation.specs.Body.{size, operationAt};
 
 // A decoded operation: registers and objects by number, a constant only where the kind carries one.
 pub enum Operation {
@@ -24,68 +23,10 @@ pub enum Decoded {
 }
 
 // A byte as a number.
-fn small(x: u8) -> usize
+pub fn small(x: u8) -> usize
     ensures { λ r. ⌜ (r ≡ x) × (r < 256) ⌝ }
 {
     x as usize
-}
-
-// Whether each of the m operations keeps the rules of its kind: a column for each limit, built before the loop, and one branch on all of them.
-fn each_allowed(body: &[u8], m: usize, objects: usize) -> bool
-    requires { ⌜ (m ≡ size (now body)) × (m ≤ mostOperations) × (length (now body) ≡ 1 + 11 * m) ⌝ }
-    ensures { λ r. ⌜ r ≡ each (allowedAt objects (now (body .entry))) m ⌝ }
-{
-    let first_below = [4, 4, 4, 4, 4, 4, 1, 4];
-    let second_from = [0, 0, 0, 0, 0, 1, 0, 0];
-    let second_below = [objects, objects, 1, 4, 4, m, 1, 1];
-    let constant_from: [u64; 8] = [0, 0, 0, 0, 0, 0, 0, 1];
-    let constant_most: [u64; 8] = [0, 0, 0xffff_ffff_ffff_ffff, 0, 0, 0, 0, 1_000_000];
-    let mut i = 0;
-    while i < m {
-        let kind = small(body[1 + 3 * i]);
-        if 8 <= kind {
-            return false;
-        }
-        let first = small(body[2 + 3 * i]);
-        let second = small(body[3 + 3 * i]);
-        let constant = words::load(body, 1 + 3 * m + 8 * i);
-        let from = second_from[kind];
-        let allowed = (first < first_below[kind])
-            & (from <= second)
-            & (second + from * i < second_below[kind])
-            & (constant_from[kind] <= constant)
-            & (constant <= constant_most[kind]);
-        if !allowed {
-            return false;
-        }
-        i += 1;
-    }
-    true
-}
-
-// A whole body, of any length and contents, for a replica of this many objects.
-pub fn decode(body: &[u8], most: usize, objects: usize) -> Decoded
-    requires { ⌜ most ≤ mostOperations ⌝ }
-    ensures { λ r. ⌜ r ≡ decoded most objects (now (body .entry)) ⌝ }
-{
-    if body.len() == 0 {
-        return Decoded::Malformed;
-    }
-    let m = small(body[0]);
-    if m < 1 {
-        return Decoded::Malformed;
-    }
-    if most < m {
-        return Decoded::Malformed;
-    }
-    if body.len() != 1 + 11 * m {
-        return Decoded::Malformed;
-    }
-    if each_allowed(body, m, objects) {
-        Decoded::WellFormed(m)
-    } else {
-        Decoded::Malformed
-    }
 }
 
 // Operation i of a body that was checked: no rule is tested again, and a constant is loaded only where the kind carries one.

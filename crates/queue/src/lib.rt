@@ -152,7 +152,7 @@ pub fn deliver_optimistic(
         return Reply::Refused(5);
     }
     let objects = cells::get(records, 17 + l.readers) as usize;
-    let Decoded::WellFormed(_) = operation::decode(body, l.operations, objects) else {
+    let Decoded::WellFormed(_) = decoder::decode(body, l.operations, objects) else {
         return Reply::Refused(6);
     };
     if l.pending <= count {

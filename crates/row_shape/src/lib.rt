@@ -79,7 +79,7 @@ fn body_ok(place: &[u8], most: usize, n: usize) -> bool
     if place.len() < end {
         return false;
     }
-    let operation::Decoded::WellFormed(_) = operation::decode(&place[..end], most, n) else {
+    let operation::Decoded::WellFormed(_) = decoder::decode(&place[..end], most, n) else {
         return false;
     };
     cells::all_zero(place, end, place.len())

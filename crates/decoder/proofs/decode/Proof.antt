@@ -1,4 +1,4 @@
--- `operation::decode` meets its contract: each refusal is one of the parts of `wellFormed`, in their order. Assumes nothing.
+-- `decoder::decode` meets its contract: each refusal is one of the parts of `wellFormed`, in their order. Assumes nothing.
 use Prim.Native.Nat.{_+_, _*_}
 use mathlib.Core.Path.{_≡_, sym, ap}
 use mathlib.Core.Bool.{and-false}
@@ -7,11 +7,11 @@ use lib.ListN.{length}
 use denote.Ref.{now}
 use borrow.Author.Needs.{needs}
 use borrow.Author.Tests.{le-leb, lt-leb, eq-eqb, ne-eqb}
 use Rattle.operation.specs.declared.Decoded.the-variants.{WellFormed}
 use Rattle.operation.specs.Body.{size, wellFormed, decoded}
 use Rattle.operation.specs.Columns.{nothing}
-use Rattle.operation.proofs.decode.Statement.{statement}
-use Rattle.operation.proofs.decode.Tie as tie
+use Rattle.decoder.proofs.decode.Statement.{statement}
+use Rattle.decoder.proofs.decode.Tie as tie
 
 returns : tie.Need-returns
 unfolding decoded
