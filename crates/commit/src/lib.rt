@@ -56,7 +56,7 @@ pub fn install<'a>(
     while i < count {
         let at = layout::object_at(l, wo[i]) * 8;
         let end = at + width;
-        versions::push_version(&mut records[at..end], readers, l.readers, timestamp, wv[i]);
+        pruning::push_version(&mut records[at..end], readers, l.readers, timestamp, wv[i]);
         i += 1;
     }
 }

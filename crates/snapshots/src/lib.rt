@@ -55,7 +55,7 @@ fn prune(records: &mut [u8], l: Limits, snapshots: &mut [u8])
     let n = cells::get(records, 17 + readers) as usize;
     let first = layout::object_at(l, 0) * 8;
     let end = layout::object_at(l, n) * 8;
-    versions::prune_objects(&mut records[first..end], snapshots, readers, n);
+    pruning::prune_objects(&mut records[first..end], snapshots, readers, n);
 }
 
 pub fn close_reader(records: &mut [u8], l: Limits, reader: u32) -> Reply

@@ -46,7 +46,7 @@ fn resume(
     }
     let e = interpreter::execute(table, body, registers, ro, rv, wo, wv, from, budget);
     let t = e.counts;
-    rows::store_row(row, t, registers, ro, rv, wo, wv);
+    write_back::store_row(row, t, registers, ro, rv, wo, wv);
     e
 }
 

@@ -1,4 +1,4 @@
--- `versions::keep_held` meets its contract. Invariant: what stands in front, the version in hand and those yet to be kept make up the target,
+-- `pruning::keep_held` meets its contract. Invariant: what stands in front, the version in hand and those yet to be kept make up the target,
 -- and from cell i on nothing has changed. The measure is the number of versions left.
 use mathlib.Core.Path.{_≡_, refl, _∙_}
 use Prim.Native.Nat.{_+_, _*_, _≤_}
@@ -7,10 +7,10 @@ use lib.ListN.{length}
 use borrow.Author.Needs.{needs}
 use Rattle.cells.specs.Cells.{cells}
 use Rattle.cells.specs.Laws.{length-cells-whole}
 use Rattle.versions.specs.Block.{width, fronted}
 use Rattle.versions.specs.Keep.{Moving, moving-keep, moving-drop, moving-end, moving-size}
-use Rattle.versions.proofs.keep_held.Statement.{statement}
-use Rattle.versions.proofs.keep_held.Tie as tie
+use Rattle.pruning.proofs.keep_held.Statement.{statement}
+use Rattle.pruning.proofs.keep_held.Tie as tie
 
 abbrev Inv-loop : tie.InvT-loop
 Inv-loop block₀ snapshots readers start count stamp value upper₀ s₀ v₀ i₀ left₀ j₀ block upper s v i left j =

@@ -1,13 +1,13 @@
--- `versions::rebuild` meets its contract: the front from `keep_held`, zeros behind it, and the count in front.
+-- `pruning::rebuild` meets its contract: the front from `keep_held`, zeros behind it, and the count in front.
 use mathlib.Core.List.{_∷_}
 use native.Mathlib.Omega.{arith}
 use lib.ListN.{drop}
 use borrow.Author.Needs.{needs}
 use Rattle.cells.specs.Cells.{cells}
 use Rattle.versions.specs.Print.{rebuilt}
 use Rattle.versions.specs.Block.{kept}
-use Rattle.versions.proofs.rebuild.Statement.{statement}
-use Rattle.versions.proofs.rebuild.Tie as tie
+use Rattle.pruning.proofs.rebuild.Statement.{statement}
+use Rattle.pruning.proofs.rebuild.Tie as tie
 
 keep-held-requires : tie.Need-keep-held-requires
 keep-held-requires c κs = search needs

@@ -1,11 +1,11 @@
--- `rows::store_registers`: four stores one after another.
+-- `write_back::store_registers`: four stores one after another.
 use borrow.Author.Needs.{needs}
 use denote.Ref.{now}
 use Rattle.arith.specs.Laws.{read-back}
 use Rattle.cells.specs.Cells.{cells}
 use Rattle.rows.specs.Storing.{registers-stored}
-use Rattle.rows.proofs.store_registers.Statement.{statement}
-use Rattle.rows.proofs.store_registers.Tie as tie
+use Rattle.write_back.proofs.store_registers.Statement.{statement}
+use Rattle.write_back.proofs.store_registers.Tie as tie
 
 element-copy-out-put-signed : tie.Need-element-copy-out-put-signed
 element-copy-out-put-signed c = search needs

@@ -1,11 +1,11 @@
--- `versions::put_pair` meets its contract, from what the two stores ensure.
+-- `pruning::put_pair` meets its contract, from what the two stores ensure.
 use mathlib.Core.List.{List}
 use mathlib.Core.Path.{_∙_, ap}
 use Prim.Native.Nat.{ℕ, _+_}
 use lib.ListN.{set}
 use borrow.Author.Needs.{needs}
-use Rattle.versions.proofs.put_pair.Statement.{statement}
-use Rattle.versions.proofs.put_pair.Tie as tie
+use Rattle.pruning.proofs.put_pair.Statement.{statement}
+use Rattle.pruning.proofs.put_pair.Tie as tie
 
 put-requires : tie.Need-put-requires
 put-requires c κs = search needs

@@ -1,4 +1,4 @@
--- `rows::store_entries`: the loop's invariant is that the entries passed stand in the row.
+-- `write_back::store_entries`: the loop's invariant is that the entries passed stand in the row.
 use mathlib.Core.Path.{_≡_, refl, sym, ap₂, _∙_, subst}
 use mathlib.Core.List.{List}
 use Prim.Native.Nat.{ℕ, _+_, _*_, _-_}
@@ -11,9 +11,9 @@ use denote.Ref.{now}
 use Rattle.arith.specs.Laws.{read-back}
 use Rattle.cells.specs.Cells.{cells}
 use Rattle.cells.specs.Laws.{length-cells}
 use Rattle.rows.specs.Storing.{Storing, storing-none, storing-next, storing-all}
-use Rattle.rows.proofs.store_entries.Statement.{statement}
-use Rattle.rows.proofs.store_entries.Tie as tie
+use Rattle.write_back.proofs.store_entries.Statement.{statement}
+use Rattle.write_back.proofs.store_entries.Tie as tie
 
 abbrev Inv-loop : tie.InvT-loop
 Inv-loop row₀ from count os vs i₀ row i = (length row ≡ length row₀) × Storing (cells row₀) from count os vs i (cells row)

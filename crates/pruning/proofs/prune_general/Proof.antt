@@ -1,4 +1,4 @@
--- `versions::prune_general` meets its contract: the newest version is held, and `rebuild` keeps those of the others that are.
+-- `pruning::prune_general` meets its contract: the newest version is held, and `rebuild` keeps those of the others that are.
 use mathlib.Core.Path.{_∙_, ap}
 use Prim.Native.Nat.{_-_}
 use native.Mathlib.Omega.{arith}
@@ -6,9 +6,9 @@ use lib.ListN.{drop}
 use borrow.Author.Needs.{needs}
 use Rattle.cells.specs.Cells.{cells, uncells}
 use Rattle.cells.specs.Laws.{cells-below}
 use Rattle.versions.specs.Print.{prune-done, kept-length, count-few}
-use Rattle.versions.proofs.prune_general.Statement.{statement}
-use Rattle.versions.proofs.prune_general.Tie as tie
+use Rattle.pruning.proofs.prune_general.Statement.{statement}
+use Rattle.pruning.proofs.prune_general.Tie as tie
 
 get-requires : tie.Need-get-requires
 get-requires c κs = search needs

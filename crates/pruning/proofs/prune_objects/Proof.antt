@@ -1,4 +1,4 @@
--- `versions::prune_objects` meets its contract. Invariant: what stands in front is done, from byte at on nothing has changed, and the blocks that
+-- `pruning::prune_objects` meets its contract. Invariant: what stands in front is done, from byte at on nothing has changed, and the blocks that
 -- are left are ordered. The measure is the number of blocks left.
 use mathlib.Core.Path.{_≡_, refl}
 use Prim.Native.Nat.{_+_, _*_, _-_}
@@ -6,11 +6,11 @@ use native.Mathlib.Omega.{arith}
 use lib.ListN.{length, length-take, length-drop}
 use borrow.Author.Needs.{needs}
 use Rattle.cells.specs.Cells.{cells}
 use Rattle.versions.specs.Block.{width}
 use Rattle.versions.specs.Steps.{less-times, none-times}
 use Rattle.versions.specs.Whole.{pruned, Pruning, pruning-part, pruning-next, pruning-end}
-use Rattle.versions.proofs.prune_objects.Statement.{statement}
-use Rattle.versions.proofs.prune_objects.Tie as tie
+use Rattle.pruning.proofs.prune_objects.Statement.{statement}
+use Rattle.pruning.proofs.prune_objects.Tie as tie
 
 abbrev Inv-loop : tie.InvT-loop
 Inv-loop blocks₀ snapshots readers n w at₀ left₀ blocks at left =

@@ -1,4 +1,4 @@
--- `versions::push_version` meets its contract: the new version is the newest, `rebuild` keeps those of the others that are held, and the model's
+-- `pruning::push_version` meets its contract: the new version is the newest, `rebuild` keeps those of the others that are held, and the model's
 -- bound on the versions of an object after a commit says that there is room.
 use mathlib.Core.Path.{_∙_, ap}
 use Prim.Native.Nat.{_-_}
@@ -9,9 +9,9 @@ use mir.Facts.{toZ-ofZ}
 use borrow.Author.Needs.{needs}
 use Rattle.cells.specs.Cells.{cells, uncells}
 use Rattle.cells.specs.Laws.{cells-below, length-cells-whole}
 use Rattle.versions.specs.Print.{push-done, push-room, count-few, ok-framed}
-use Rattle.versions.proofs.push_version.Statement.{statement}
-use Rattle.versions.proofs.push_version.Tie as tie
+use Rattle.pruning.proofs.push_version.Statement.{statement}
+use Rattle.pruning.proofs.push_version.Tie as tie
 
 get-requires : tie.Need-get-requires
 get-requires c κs = search needs

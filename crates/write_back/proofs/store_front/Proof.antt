@@ -1,12 +1,12 @@
--- `rows::store_front`: eight stores one after another.
+-- `write_back::store_front`: eight stores one after another.
 use native.Mathlib.Omega.{arith}
 use borrow.Author.Needs.{needs}
 use denote.Ref.{now}
 use Rattle.cells.specs.Cells.{cells}
 use Rattle.cells.specs.Laws.{length-cells}
 use Rattle.rows.specs.Storing.{front-stored}
-use Rattle.rows.proofs.store_front.Statement.{statement}
-use Rattle.rows.proofs.store_front.Tie as tie
+use Rattle.write_back.proofs.store_front.Statement.{statement}
+use Rattle.write_back.proofs.store_front.Tie as tie
 
 put-requires : tie.Need-put-requires
 put-requires c κs = search needs

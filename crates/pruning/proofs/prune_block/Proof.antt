@@ -1,11 +1,11 @@
--- `versions::prune_block` meets its contract: a single version is always held, and its block is what would be printed.
+-- `pruning::prune_block` meets its contract: a single version is always held, and its block is what would be printed.
 use native.Mathlib.Omega.{arith}
 use borrow.Author.Needs.{needs}
 use Rattle.cells.specs.Cells.{cells}
 use Rattle.versions.specs.Round.{prune-single}
 use Rattle.versions.specs.Block.{stamps}
-use Rattle.versions.proofs.prune_block.Statement.{statement}
-use Rattle.versions.proofs.prune_block.Tie as tie
+use Rattle.pruning.proofs.prune_block.Statement.{statement}
+use Rattle.pruning.proofs.prune_block.Tie as tie
 
 get-requires : tie.Need-get-requires
 get-requires c κs = search needs

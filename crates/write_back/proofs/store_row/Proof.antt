@@ -1,4 +1,4 @@
--- `rows::store_row`: the front, both sets and the zeros, one after another; the bytes follow from the cells.
+-- `write_back::store_row`: the front, both sets and the zeros, one after another; the bytes follow from the cells.
 use mathlib.Core.Path.{_≡_, ap, _∙_}
 use Prim.Native.Nat.{ℕ, _+_, _*_, _-_}
 use native.Mathlib.Omega.{arith}
@@ -11,9 +11,9 @@ use Rattle.cells.specs.Laws.{length-cells-whole}
 use Rattle.layout.specs.Rows.{blank}
 use Rattle.execution.specs.Arrays.{runOf}
 use Rattle.layout.specs.Layout.{run}
 use Rattle.rows.specs.Storing.{row-stored, row-bytes}
-use Rattle.rows.proofs.store_row.Statement.{statement}
-use Rattle.rows.proofs.store_row.Tie as tie
+use Rattle.write_back.proofs.store_row.Statement.{statement}
+use Rattle.write_back.proofs.store_row.Tie as tie
 
 store-front-requires : tie.Need-store-front-requires
 store-front-requires c κs = search needs
