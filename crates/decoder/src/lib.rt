@@ -1,7 +1,7 @@
 // Decodes a whole body (document 01, "A job's body"): the check of its rules, on bytes of any length and contents.
 use operation::Decoded;
 ghost use mathlib.Core.Path.{_≡_};
-ghost use Prim.Native.Nat.{_+_, _*_, _≤_, _<_};
+ghost use Prim.Native.Nat.{_+_, _*_, _≤_};
 ghost use lib.ListN.{length};
 ghost use Rattle.operation.specs.Body.{size, allowedAt, each, decoded};
 ghost use Rattle.operation.specs.Columns.{mostOperations};

@@ -27,8 +27,8 @@ fn step(
     ensures { λ t. ⌜ (runOf t (now (registers .exit)) (now (ro .exit)) (now (rv .exit)) (now (wo .exit)) (now (wv .exit)) ≡ runs.apply (runs.tableOf (now (table .entry))) (runs.move op (now (registers .entry))) (runOf c (now (registers .entry)) (now (ro .entry)) (now (rv .entry)) (now (wo .entry)) (now (wv .entry)))) × Kept t × Room (now (ro .exit)) (now (rv .exit)) × Room (now (wo .exit)) (now (wv .exit)) ⌝ }
 {
     match op {
-        Operation::Load(r, o) => effects::load(table, registers, ro, rv, wo, wv, c, r, o),
-        Operation::Store(r, o) => effects::store(registers, wo, wv, c, r, o),
+        Operation::Load(r, o) => access::load(table, registers, ro, rv, wo, wv, c, r, o),
+        Operation::Store(r, o) => access::store(registers, wo, wv, c, r, o),
         Operation::Set(r, v) => effects::assign(registers, c, r, v),
         Operation::Add(r, s) => {
             let x = arith::add(registers[r], registers[s]);

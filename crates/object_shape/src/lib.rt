@@ -1,8 +1,7 @@
 // The shape check of the header and the objects (document 01, "Shape check"): timestamp, last numbers, readers, versions, and zeros behind them.
 use model::Limits;
 ghost use mathlib.Core.Path.{_≡_};
-ghost use mathlib.Core.Bool.{true};
-ghost use Prim.Native.Nat.{_+_, _*_, _≤_, _<_};
+ghost use Prim.Native.Nat.{_*_, _≤_};
 ghost use lib.ListN.{length, getD};
 ghost use Rattle.cells.specs.Cells.{cells};
 ghost use Rattle.model.specs.Calls.{lastTimestamp};

@@ -1,8 +1,8 @@
 // The shape check of one row with the place of its body (document 01, "Shape check"): key, body, and the run's counter, outcome, read set and
 // write set. It looks at the part lent to it and knows nothing of the areas' layout.
 ghost use mathlib.Core.Path.{_≡_};
-ghost use mathlib.Core.Bool.{true, _||_};
-ghost use Prim.Native.Nat.{_+_, _*_, _≤_, _<_};
+ghost use mathlib.Core.Bool.{_||_};
+ghost use Prim.Native.Nat.{_*_, _≤_, _<_};
 ghost use lib.Dec.{eqb};
 ghost use lib.ListN.{length};
 ghost use Rattle.cells.specs.Cells.{cells};

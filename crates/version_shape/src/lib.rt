@@ -3,7 +3,6 @@
 // Measured on x86-64 with 7 readers as a literal and 128 objects, in scans by `cells::all_zero` of the same bytes: objects_ok takes 0.8 where
 // each object has one version, 2.2 with two, and 12 with eight and seven open readers, where the readers are asked version by version.
 ghost use mathlib.Core.Path.{_≡_};
-ghost use mathlib.Core.Bool.{true};
 ghost use Prim.Native.Nat.{_+_, _*_, _-_, _≤_, _<_, _^_};
 ghost use lib.ListN.{length, getD, drop};
 ghost use lib.Seq.{slice};

@@ -1,7 +1,7 @@
 // One object's versions in a block of cells: a count, then stamp and value of each version, the newest first; unused cells are 0.
 // A block has 3 + 2 * readers cells. A reader's cell is 0 where it is closed, else its stamp + 1: snapshots are the cells of all readers.
 ghost use mathlib.Core.Path.{_≡_};
-ghost use mathlib.Core.Bool.{true, _&&_};
+ghost use mathlib.Core.Bool.{_&&_};
 ghost use Prim.Native.Nat.{_+_, _*_, _-_, _≤_, _<_};
 ghost use lib.Dec.{ltb, leb};
 ghost use lib.ListN.{length, getD};

@@ -1,6 +1,6 @@
 // A 64-bit word as eight bytes, the lowest first. On x86-64 `load` and `put_word` are one `mov` each.
 ghost use mathlib.Core.Path.{_≡_};
-ghost use Prim.Native.Nat.{_+_, _-_, _*_, _<_, _≤_, _%_};
+ghost use Prim.Native.Nat.{_+_, _<_, _≤_, _%_};
 ghost use lib.ListN.{length};
 ghost use Rattle.words.specs.Words.{bytes, loaded};
 

@@ -1,7 +1,7 @@
 // A run in local arrays written back to the cells of its row, once. The row's cells are those of `rows`.
 use execution::Counts;
 ghost use mathlib.Core.Path.{_≡_};
-ghost use Prim.Native.Nat.{_+_, _*_, _<_, _≤_};
+ghost use Prim.Native.Nat.{_+_, _*_, _≤_};
 ghost use lib.ListN.{length};
 ghost use Rattle.cells.specs.Cells.{cells, splice};
 ghost use Rattle.operation.specs.Body.{registerCount};

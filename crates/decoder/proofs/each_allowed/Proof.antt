@@ -82,16 +82,16 @@ load-requires : tie.Need-load-requires Inv-loop μ-loop
 load-requires c κs = omega arith
 
 mul-from : tie.Need-mul-from Inv-loop μ-loop
-mul-from c = search needs
+mul-from c = omega arith
 
 array-read-from : tie.Need-array-read-from Inv-loop μ-loop
-array-read-from c = search needs
+array-read-from c = omega arith
 
 mul-allowed : tie.Need-mul-allowed Inv-loop μ-loop
-mul-allowed c = search needs
+mul-allowed c = omega arith
 
 array-read-allowed : tie.Need-array-read-allowed Inv-loop μ-loop
-array-read-allowed c = search needs
+array-read-allowed c = omega arith
 
 mul-allowed-2 : tie.Need-mul-allowed-2 Inv-loop μ-loop
 mul-allowed-2 c = omega (arith, times (c .before .before .before .before .before .before .small .result) (c .before .before .before .before .before .before .before .before .before .loop .i))
@@ -100,22 +100,22 @@ add-allowed : tie.Need-add-allowed Inv-loop μ-loop
 add-allowed c = omega (arith, times (c .before .before .before .before .before .before .small .result) (c .before .before .before .before .before .before .before .before .before .loop .i))
 
 mul-allowed-3 : tie.Need-mul-allowed-3 Inv-loop μ-loop
-mul-allowed-3 c = search needs
+mul-allowed-3 c = omega arith
 
 array-read-allowed-2 : tie.Need-array-read-allowed-2 Inv-loop μ-loop
-array-read-allowed-2 c = search needs
+array-read-allowed-2 c = omega arith
 
 mul-allowed-4 : tie.Need-mul-allowed-4 Inv-loop μ-loop
-mul-allowed-4 c = search needs
+mul-allowed-4 c = omega arith
 
 array-read-allowed-3 : tie.Need-array-read-allowed-3 Inv-loop μ-loop
-array-read-allowed-3 c = search needs
+array-read-allowed-3 c = omega arith
 
 mul-allowed-5 : tie.Need-mul-allowed-5 Inv-loop μ-loop
-mul-allowed-5 c = search needs
+mul-allowed-5 c = omega arith
 
 array-read-allowed-4 : tie.Need-array-read-allowed-4 Inv-loop μ-loop
-array-read-allowed-4 c = search needs
+array-read-allowed-4 c = omega arith
 
 abbrev bytes : tie.After-load Inv-loop μ-loop → List ℕ
 bytes c = now (c .before .before .before .before .before .before .before .before .before .before .before .args .body)

@@ -5,9 +5,9 @@ use borrow.Author.Needs.{needs}
 use Rattle.arith.specs.Laws.{read-back}
 use Rattle.execution.specs.Run.{register}
 use Rattle.execution.specs.Places.{room-set}
 use Rattle.effects.specs.Moves.{kept-advanced, store-again, store-new}
-use Rattle.effects.proofs.store.Statement.{statement}
-use Rattle.effects.proofs.store.Tie as tie
+use Rattle.access.proofs.store.Statement.{statement}
+use Rattle.access.proofs.store.Tie as tie
 
 find-requires : tie.Need-find-requires
 find-requires c κs = search needs

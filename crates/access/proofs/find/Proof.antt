@@ -4,8 +4,8 @@ use Prim.Native.Nat.{ℕ, _≤_, _<_, _-_}
 use native.Mathlib.Omega.{arith}
 use lib.ListN.{getD}
 use borrow.Author.Count.{below-more}
-use Rattle.effects.proofs.find.Statement.{statement}
-use Rattle.effects.proofs.find.Tie as tie
+use Rattle.access.proofs.find.Statement.{statement}
+use Rattle.access.proofs.find.Tie as tie
 
 abbrev Inv-loop : tie.InvT-loop
 Inv-loop objects n object i₀ i = (i ≤ n) × ((k : ℕ) → k < i → getD objects k 0 ≡ object → ⊥)
