@@ -6,11 +6,26 @@ use model::Finding;
 use model::Limits;
 use model::Reading;
 use model::Reply;
+ghost use mathlib.Core.Path.{_≡_};
+ghost use Rattle.layout.specs.Fit.{fit};
 ghost use Rattle.model.specs.Calls.{opening, optimistic, open-reader, read as read-call, close-reader, find as find-call, execute as execute-call, final};
 ghost use Rattle.model.specs.Limits.{standard};
 ghost use Rattle.model.specs.Answers.{reply, execution, delivery, reading, finding};
 ghost use Rattle.queue.specs.Shown.{Shown};
 ghost use Rattle.replica.specs.Contract.{Supported, Met};
+
+// The shape check at the standard limits. It is called in this one place, so that the compiler makes one copy with the limits folded in.
+fn standard_shape(records: &[u8], bodies: &[u8]) -> bool
+    ensures { λ r. ⌜ r ≡ fit standard (now (records .entry), now (bodies .entry)) ⌝ }
+{
+    let l = Limits {
+        objects: 128,
+        pending: 32,
+        readers: 7,
+        operations: 16,
+    };
+    shape::check(records, bodies, l)
+}
 
 fn open_within(
     records: &mut [u8],
@@ -60,14 +75,16 @@ fn deliver_optimistic_within(
     records: &mut [u8],
     bodies: &mut [u8],
     l: Limits,
+    shaped: bool,
     client: u32,
     sequence: u32,
     body: &[u8],
 ) -> Reply
     requires { ⌜ Supported l ⌝ }
+    requires { ⌜ shaped ≡ fit l (now records, now bodies) ⌝ }
     ensures { λ r. ⌜ Met l (optimistic client sequence (now (body .entry))) (now (records .entry), now (bodies .entry)) (reply r) (now (records .exit), now (bodies .exit)) ⌝ }
 {
-    if shape::check(records, bodies, l) {
+    if shaped {
         queue::deliver_optimistic(records, bodies, l, client, sequence, body)
     } else {
         Reply::Refused(1)
@@ -90,14 +107,22 @@ pub fn deliver_optimistic(
         readers: 7,
         operations: 16,
     };
-    deliver_optimistic_within(records, bodies, l, client, sequence, body)
+    let shaped = standard_shape(records, bodies);
+    deliver_optimistic_within(records, bodies, l, shaped, client, sequence, body)
 }
 
-fn open_reader_within(records: &mut [u8], bodies: &[u8], l: Limits, reader: u32) -> Reply
+fn open_reader_within(
+    records: &mut [u8],
+    bodies: &[u8],
+    l: Limits,
+    shaped: bool,
+    reader: u32,
+) -> Reply
     requires { ⌜ Supported l ⌝ }
+    requires { ⌜ shaped ≡ fit l (now records, now bodies) ⌝ }
     ensures { λ r. ⌜ Met l (open-reader reader) (now (records .entry), now (bodies .entry)) (reply r) (now (records .exit), now (bodies .entry)) ⌝ }
 {
-    if shape::check(records, bodies, l) {
+    if shaped {
         snapshots::open_reader(records, l, reader)
     } else {
         Reply::Refused(1)
@@ -114,14 +139,23 @@ pub fn open_reader(records: &mut [u8], bodies: &[u8], reader: u32) -> Reply
         readers: 7,
         operations: 16,
     };
-    open_reader_within(records, bodies, l, reader)
+    let shaped = standard_shape(records, bodies);
+    open_reader_within(records, bodies, l, shaped, reader)
 }
 
-fn read_within(records: &[u8], bodies: &[u8], l: Limits, reader: u32, object: u32) -> Reading
+fn read_within(
+    records: &[u8],
+    bodies: &[u8],
+    l: Limits,
+    shaped: bool,
+    reader: u32,
+    object: u32,
+) -> Reading
     requires { ⌜ Supported l ⌝ }
+    requires { ⌜ shaped ≡ fit l (now records, now bodies) ⌝ }
     ensures { λ r. ⌜ Met l (read-call reader object) (now (records .entry), now (bodies .entry)) (reading r) (now (records .entry), now (bodies .entry)) ⌝ }
 {
-    if shape::check(records, bodies, l) {
+    if shaped {
         snapshots::read(records, l, reader, object)
     } else {
         Reading::Refused(1)
@@ -138,14 +172,22 @@ pub fn read(records: &[u8], bodies: &[u8], reader: u32, object: u32) -> Reading
         readers: 7,
         operations: 16,
     };
-    read_within(records, bodies, l, reader, object)
+    let shaped = standard_shape(records, bodies);
+    read_within(records, bodies, l, shaped, reader, object)
 }
 
-fn close_reader_within(records: &mut [u8], bodies: &[u8], l: Limits, reader: u32) -> Reply
+fn close_reader_within(
+    records: &mut [u8],
+    bodies: &[u8],
+    l: Limits,
+    shaped: bool,
+    reader: u32,
+) -> Reply
     requires { ⌜ Supported l ⌝ }
+    requires { ⌜ shaped ≡ fit l (now records, now bodies) ⌝ }
     ensures { λ r. ⌜ Met l (close-reader reader) (now (records .entry), now (bodies .entry)) (reply r) (now (records .exit), now (bodies .entry)) ⌝ }
 {
-    if shape::check(records, bodies, l) {
+    if shaped {
         snapshots::close_reader(records, l, reader)
     } else {
         Reply::Refused(1)
@@ -162,14 +204,23 @@ pub fn close_reader(records: &mut [u8], bodies: &[u8], reader: u32) -> Reply
         readers: 7,
         operations: 16,
     };
-    close_reader_within(records, bodies, l, reader)
+    let shaped = standard_shape(records, bodies);
+    close_reader_within(records, bodies, l, shaped, reader)
 }
 
-fn find_within(records: &[u8], bodies: &[u8], l: Limits, client: u32, sequence: u32) -> Finding
+fn find_within(
+    records: &[u8],
+    bodies: &[u8],
+    l: Limits,
+    shaped: bool,
+    client: u32,
+    sequence: u32,
+) -> Finding
     requires { ⌜ Supported l ⌝ }
+    requires { ⌜ shaped ≡ fit l (now records, now bodies) ⌝ }
     ensures { λ r. ⌜ Met l (find-call client sequence) (now (records .entry), now (bodies .entry)) (finding r) (now (records .entry), now (bodies .entry)) ⌝ }
 {
-    if shape::check(records, bodies, l) {
+    if shaped {
         queue::find(records, bodies, l, client, sequence)
     } else {
         Finding::Refused(1)
@@ -186,20 +237,23 @@ pub fn find(records: &[u8], bodies: &[u8], client: u32, sequence: u32) -> Findin
         readers: 7,
         operations: 16,
     };
-    find_within(records, bodies, l, client, sequence)
+    let shaped = standard_shape(records, bodies);
+    find_within(records, bodies, l, shaped, client, sequence)
 }
 
 fn show_body_within<'a>(
     records: &[u8],
     bodies: &'a [u8],
     l: Limits,
+    shaped: bool,
     client: u32,
     sequence: u32,
 ) -> &'a [u8]
     requires { ⌜ Supported l ⌝ }
+    requires { ⌜ shaped ≡ fit l (now records, now bodies) ⌝ }
     ensures { λ r. ⌜ Shown l (now (records .entry)) (bodies .entry) r client sequence ⌝ }
 {
-    if shape::check(records, bodies, l) {
+    if shaped {
         queue::show_body(records, bodies, l, client, sequence)
     } else {
         &bodies[..0]
@@ -216,14 +270,22 @@ pub fn show_body<'a>(records: &[u8], bodies: &'a [u8], client: u32, sequence: u3
         readers: 7,
         operations: 16,
     };
-    show_body_within(records, bodies, l, client, sequence)
+    let shaped = standard_shape(records, bodies);
+    show_body_within(records, bodies, l, shaped, client, sequence)
 }
 
-fn execute_within(records: &mut [u8], bodies: &[u8], l: Limits, count: u32) -> Execution
+fn execute_within(
+    records: &mut [u8],
+    bodies: &[u8],
+    l: Limits,
+    shaped: bool,
+    count: u32,
+) -> Execution
     requires { ⌜ Supported l ⌝ }
+    requires { ⌜ shaped ≡ fit l (now records, now bodies) ⌝ }
     ensures { λ r. ⌜ Met l (execute-call count) (now (records .entry), now (bodies .entry)) (execution r) (now (records .exit), now (bodies .entry)) ⌝ }
 {
-    if shape::check(records, bodies, l) {
+    if shaped {
         speculation::execute(records, bodies, l, count)
     } else {
         Execution::Refused(1)
@@ -240,20 +302,23 @@ pub fn execute(records: &mut [u8], bodies: &[u8], count: u32) -> Execution
         readers: 7,
         operations: 16,
     };
-    execute_within(records, bodies, l, count)
+    let shaped = standard_shape(records, bodies);
+    execute_within(records, bodies, l, shaped, count)
 }
 
 fn deliver_final_within(
     records: &mut [u8],
     bodies: &mut [u8],
     l: Limits,
+    shaped: bool,
     client: u32,
     sequence: u32,
 ) -> Delivery
     requires { ⌜ Supported l ⌝ }
+    requires { ⌜ shaped ≡ fit l (now records, now bodies) ⌝ }
     ensures { λ r. ⌜ Met l (final client sequence) (now (records .entry), now (bodies .entry)) (delivery r) (now (records .exit), now (bodies .exit)) ⌝ }
 {
-    if shape::check(records, bodies, l) {
+    if shaped {
         commit::deliver_final(records, bodies, l, client, sequence)
     } else {
         Delivery::Refused(1)
@@ -270,5 +335,6 @@ pub fn deliver_final(records: &mut [u8], bodies: &mut [u8], client: u32, sequenc
         readers: 7,
         operations: 16,
     };
-    deliver_final_within(records, bodies, l, client, sequence)
+    let shaped = standard_shape(records, bodies);
+    deliver_final_within(records, bodies, l, shaped, client, sequence)
 }

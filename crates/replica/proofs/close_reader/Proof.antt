@@ -4,8 +4,12 @@ use Rattle.model.specs.Limits.{standard}
 use Rattle.replica.proofs.close_reader.Statement.{statement}
 use Rattle.replica.proofs.close_reader.Tie as tie
 
+standard-shape-requires : tie.Need-standard-shape-requires
+standard-shape-requires c κs = search needs
+
 close-reader-within-requires : tie.Need-close-reader-within-requires
-close-reader-within-requires c κs = search needs
+unfolding standard
+close-reader-within-requires c κs = (search needs, c .before .standard-shape .ensures)
 
 same-length : tie.Need-same-length
 same-length c = search needs
@@ -15,4 +19,4 @@ unfolding standard
 returns c = c .before .before .close-reader-within .ensures
 
 pub close-reader-spec : {M : Type 1} → statement M
-close-reader-spec = tie.close (tie.spec close-reader-within-requires same-length returns)
+close-reader-spec = tie.close (tie.spec standard-shape-requires close-reader-within-requires same-length returns)

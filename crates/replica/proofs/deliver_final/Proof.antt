@@ -4,8 +4,12 @@ use Rattle.model.specs.Limits.{standard}
 use Rattle.replica.proofs.deliver_final.Statement.{statement}
 use Rattle.replica.proofs.deliver_final.Tie as tie
 
+standard-shape-requires : tie.Need-standard-shape-requires
+standard-shape-requires c κs = search needs
+
 deliver-final-within-requires : tie.Need-deliver-final-within-requires
-deliver-final-within-requires c κs = search needs
+unfolding standard
+deliver-final-within-requires c κs = (search needs, c .before .before .standard-shape .ensures)
 
 same-length : tie.Need-same-length
 same-length c = search needs
@@ -18,4 +22,4 @@ unfolding standard
 returns c = c .before .before .before .before .deliver-final-within .ensures
 
 pub deliver-final-spec : {M : Type 1} → statement M
-deliver-final-spec = tie.close (tie.spec deliver-final-within-requires same-length same-length-2 returns)
+deliver-final-spec = tie.close (tie.spec standard-shape-requires deliver-final-within-requires same-length same-length-2 returns)

@@ -4,8 +4,12 @@ use Rattle.model.specs.Limits.{standard}
 use Rattle.replica.proofs.deliver_optimistic.Statement.{statement}
 use Rattle.replica.proofs.deliver_optimistic.Tie as tie
 
+standard-shape-requires : tie.Need-standard-shape-requires
+standard-shape-requires c κs = search needs
+
 deliver-optimistic-within-requires : tie.Need-deliver-optimistic-within-requires
-deliver-optimistic-within-requires c κs = search needs
+unfolding standard
+deliver-optimistic-within-requires c κs = (search needs, c .before .before .standard-shape .ensures)
 
 same-length : tie.Need-same-length
 same-length c = search needs
@@ -18,4 +22,4 @@ unfolding standard
 returns c = c .before .before .before .before .deliver-optimistic-within .ensures
 
 pub deliver-optimistic-spec : {M : Type 1} → statement M
-deliver-optimistic-spec = tie.close (tie.spec deliver-optimistic-within-requires same-length same-length-2 returns)
+deliver-optimistic-spec = tie.close (tie.spec standard-shape-requires deliver-optimistic-within-requires same-length same-length-2 returns)

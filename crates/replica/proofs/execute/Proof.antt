@@ -4,8 +4,12 @@ use Rattle.model.specs.Limits.{standard}
 use Rattle.replica.proofs.execute.Statement.{statement}
 use Rattle.replica.proofs.execute.Tie as tie
 
+standard-shape-requires : tie.Need-standard-shape-requires
+standard-shape-requires c κs = search needs
+
 execute-within-requires : tie.Need-execute-within-requires
-execute-within-requires c κs = search needs
+unfolding standard
+execute-within-requires c κs = (search needs, c .before .standard-shape .ensures)
 
 same-length : tie.Need-same-length
 same-length c = search needs
@@ -15,4 +19,4 @@ unfolding standard
 returns c = c .before .before .execute-within .ensures
 
 pub execute-spec : {M : Type 1} → statement M
-execute-spec = tie.close (tie.spec execute-within-requires same-length returns)
+execute-spec = tie.close (tie.spec standard-shape-requires execute-within-requires same-length returns)

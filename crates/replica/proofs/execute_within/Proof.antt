@@ -1,4 +1,4 @@
--- `replica::execute_within` meets its contract: the check, then `speculation::execute`. Assumes nothing.
+-- `replica::execute_within` meets its contract: where the areas have the shape, `speculation::execute`. Assumes nothing.
 use mathlib.Core.Path.{_≡_, refl, sym, ap, _∙_}
 use denote.Ref.{now}
 use borrow.Author.Needs.{needs}
@@ -7,13 +7,10 @@ use Rattle.replica.specs.Contract.{met-unfit}
 use Rattle.replica.proofs.execute_within.Statement.{statement}
 use Rattle.replica.proofs.execute_within.Tie as tie
 
-check-requires : tie.Need-check-requires
-check-requires c κs = search needs
-
 execute-requires : tie.Need-execute-requires
 execute-requires c κs =
-    let p = c .before .before .before .before .before .before .pre in
-    record { sane = p .sane; objects = p .objects; few = p .operations; fit = sym (c .before .before .check .ensures) ∙ c .before .if1 .taken }
+    let p = c .before .before .before .before .pre .0 in
+    record { sane = p .sane; objects = p .objects; few = p .operations; fit = sym (c .before .before .before .before .pre .1) ∙ c .before .if1 .taken }
 
 same-length : tie.Need-same-length
 same-length c = search needs
@@ -21,13 +18,10 @@ same-length c = search needs
 returns : tie.Need-returns
 returns c = let k = c .before .before .execute .ensures in record { answers = k .0; areas = k .1 }
 
-same-length-2 : tie.Need-same-length-2
-same-length-2 c = search needs
-
 returns-2 : tie.Need-returns-2
 returns-2 c =
-    let a = c .before .before .before .before .before .args in
-    met-unfit (a .l) (execute (a .count)) (now (a .records), now (a .bodies)) (sym (c .before .check .ensures) ∙ c .if1 .left)
+    let a = c .before .before .before .args in
+    met-unfit (a .l) (execute (a .count)) (now (a .records), now (a .bodies)) (sym (c .before .before .before .pre .1) ∙ c .if1 .left)
 
 pub execute-within-spec : {M : Type 1} → statement M
-execute-within-spec = tie.close (tie.spec check-requires execute-requires same-length returns same-length-2 returns-2)
+execute-within-spec = tie.close (tie.spec execute-requires same-length returns returns-2)

@@ -4,12 +4,16 @@ use Rattle.model.specs.Limits.{standard}
 use Rattle.replica.proofs.find.Statement.{statement}
 use Rattle.replica.proofs.find.Tie as tie
 
+standard-shape-requires : tie.Need-standard-shape-requires
+standard-shape-requires c κs = search needs
+
 find-within-requires : tie.Need-find-within-requires
-find-within-requires c κs = search needs
+unfolding standard
+find-within-requires c κs = (search needs, c .standard-shape .ensures)
 
 returns : tie.Need-returns
 unfolding standard
 returns c = c .find-within .ensures
 
 pub find-spec : {M : Type 1} → statement M
-find-spec = tie.close (tie.spec find-within-requires returns)
+find-spec = tie.close (tie.spec standard-shape-requires find-within-requires returns)

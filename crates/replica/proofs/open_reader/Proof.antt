@@ -4,8 +4,12 @@ use Rattle.model.specs.Limits.{standard}
 use Rattle.replica.proofs.open_reader.Statement.{statement}
 use Rattle.replica.proofs.open_reader.Tie as tie
 
+standard-shape-requires : tie.Need-standard-shape-requires
+standard-shape-requires c κs = search needs
+
 open-reader-within-requires : tie.Need-open-reader-within-requires
-open-reader-within-requires c κs = search needs
+unfolding standard
+open-reader-within-requires c κs = (search needs, c .before .standard-shape .ensures)
 
 same-length : tie.Need-same-length
 same-length c = search needs
@@ -15,4 +19,4 @@ unfolding standard
 returns c = c .before .before .open-reader-within .ensures
 
 pub open-reader-spec : {M : Type 1} → statement M
-open-reader-spec = tie.close (tie.spec open-reader-within-requires same-length returns)
+open-reader-spec = tie.close (tie.spec standard-shape-requires open-reader-within-requires same-length returns)

@@ -4,12 +4,16 @@ use Rattle.model.specs.Limits.{standard}
 use Rattle.replica.proofs.read.Statement.{statement}
 use Rattle.replica.proofs.read.Tie as tie
 
+standard-shape-requires : tie.Need-standard-shape-requires
+standard-shape-requires c κs = search needs
+
 read-within-requires : tie.Need-read-within-requires
-read-within-requires c κs = search needs
+unfolding standard
+read-within-requires c κs = (search needs, c .standard-shape .ensures)
 
 returns : tie.Need-returns
 unfolding standard
 returns c = c .read-within .ensures
 
 pub read-spec : {M : Type 1} → statement M
-read-spec = tie.close (tie.spec read-within-requires returns)
+read-spec = tie.close (tie.spec standard-shape-requires read-within-requires returns)

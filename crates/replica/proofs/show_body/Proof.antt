@@ -4,12 +4,16 @@ use Rattle.model.specs.Limits.{standard}
 use Rattle.replica.proofs.show_body.Statement.{statement}
 use Rattle.replica.proofs.show_body.Tie as tie
 
+standard-shape-requires : tie.Need-standard-shape-requires
+standard-shape-requires c κs = search needs
+
 show-body-within-requires : tie.Need-show-body-within-requires
-show-body-within-requires c κs = search needs
+unfolding standard
+show-body-within-requires c κs = (search needs, c .standard-shape .ensures)
 
 returns : tie.Need-returns
 unfolding standard
 returns c = c .show-body-within .ensures
 
 pub show-body-spec : {M : Type 1} → statement M
-show-body-spec = tie.close (tie.spec show-body-within-requires returns)
+show-body-spec = tie.close (tie.spec standard-shape-requires show-body-within-requires returns)

@@ -1,4 +1,4 @@
--- `replica::show_body_within` meets its contract: the check, then `queue::show_body`, else the empty part. Assumes nothing.
+-- `replica::show_body_within` meets its contract: where the areas have the shape, `queue::show_body`, else the empty part. Assumes nothing.
 use mathlib.Core.Path.{_≡_, refl, sym, ap, _∙_}
 use denote.Ref.{now}
 use borrow.Author.Needs.{needs}
@@ -6,11 +6,8 @@ use Rattle.replica.specs.ShowBody.{shown-unfit}
 use Rattle.replica.proofs.show_body_within.Statement.{statement}
 use Rattle.replica.proofs.show_body_within.Tie as tie
 
-check-requires : tie.Need-check-requires
-check-requires c κs = search needs
-
 show-body-requires : tie.Need-show-body-requires
-show-body-requires c κs = (c .before .before .before .before .pre .sane, sym (c .before .check .ensures) ∙ c .if1 .taken)
+show-body-requires c κs = (c .before .before .before .pre .0 .sane, sym (c .before .before .before .pre .1) ∙ c .if1 .taken)
 
 slice-aggregate-result : tie.Need-slice-aggregate-result
 slice-aggregate-result c = search needs
@@ -20,8 +17,8 @@ returns c = search needs
 
 returns-2 : tie.Need-returns-2
 returns-2 c =
-    let a = c .before .before .before .before .before .args in
-    shown-unfit (a .l) (now (a .records)) (a .bodies) _ (a .client) (a .sequence) (sym (c .before .before .check .ensures) ∙ c .before .if1 .left) refl refl
+    let a = c .before .before .before .before .args in
+    shown-unfit (a .l) (now (a .records)) (a .bodies) _ (a .client) (a .sequence) (sym (c .before .before .before .before .pre .1) ∙ c .before .if1 .left) refl refl
 
 pub show-body-within-spec : {M : Type 1} → statement M
-show-body-within-spec = tie.close (tie.spec check-requires show-body-requires slice-aggregate-result returns returns-2)
+show-body-within-spec = tie.close (tie.spec show-body-requires slice-aggregate-result returns returns-2)
