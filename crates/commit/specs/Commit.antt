@@ -23,7 +23,7 @@ use Rattle.model.specs.declared.Limits.{Limits}
 use Rattle.model.specs.declared.Commit.{Commit}
 use Rattle.model.specs.declared.Delivery as deliveries
 use Rattle.model.specs.Lists.{keep, mapi}
-use Rattle.model.specs.ListLaws.{All, all-keep, all-implies, getD-mapi, length-mapi}
+use Rattle.model.specs.ListLaws.{All, all-keep, all-implies, getD-mapi, length-mapi, all-in}
 use Rattle.model.specs.Calls.{committed as committed-answer, Answer, Transaction, clients, lastTimestamp}
 use Rattle.model.specs.Answers.{delivery}
 use Rattle.model.specs.Serial.{Version}
@@ -35,9 +35,8 @@ use Rattle.model.specs.Shape.{VersionsShape, Shape}
 use Rattle.model.specs.ShapeRuns.{AllShaped}
 use Rattle.model.specs.ShapeParts.{pending-part, table-fits, result-shaped}
 use Rattle.layout.specs.Layout.{body-of}
-use Rattle.layout.specs.Lawful.{all-in}
-use Rattle.layout.specs.Offsets.{Sane, last-at}
-use Rattle.layout.specs.Holds.{Holds, HoldsBodies, with-timestamp, with-lasts, with-pending}
+use Rattle.layout.specs.Offsets.{Sane, last-at, reader-at, size-at}
+use Rattle.layout.specs.Holds.{Holds, HoldsBodies, with-timestamp, with-lasts, with-pending, holds-long}
 use Rattle.layout.specs.Reading.{readers-part, get-size, get-timestamp}
 use Rattle.layout.specs.Writing.{put-timestamp, put-last}
 use Rattle.layout.specs.Bodies.{same-bodies}
@@ -45,7 +44,7 @@ use Rattle.rows.specs.Committed as rows
 use Rattle.rows.specs.Committed.{committed, committed-back, committed-table}
 use Rattle.rows.specs.Listed.{length-entries}
 use Rattle.commit.specs.declared.Decision.{Decision}
-use Rattle.commit.specs.Install.{holds-length, Ready, installed}
+use Rattle.commit.specs.Install.{Ready, installed}
 use Rattle.commit.specs.Leave.{Paired, Both, at, fits-at}
 use Rattle.commit.specs.Walk.{Walking}
 use Rattle.commit.specs.Decide.{Deciding, Decided}
@@ -72,30 +71,33 @@ pub record Publishing (l : Limits) (b : List ℕ) (t : ℕ) (ws : List Entry) : 
   pub writes : Entries (length (replica .objects)) ws
 
 module _ (l : Limits) (s : Sane l) (b : List ℕ) (t : ℕ) (ws : List Entry) (p : Publishing l b t ws) where
-  pub readers-inside : 136 + l .readers * 8 ≤ length b
-  readers-inside = omega (arith, holds-length l s b (p .replica) (p .holds))
-
   -- rs is a copy of the readers' cells
-  abbrev pub publishing-ready : (rs : List ℕ) → rs ≡ midOf 136 (l .readers * 8) b → Ready l b rs t ws
+  abbrev pub publishing-ready : (rs : List ℕ) → rs ≡ midOf (reader-at 0 * 8) (l .readers * 8) b → Ready l b rs t ws
   publishing-ready rs e =
       record { replica = p .replica; holds = p .holds; versions = p .versions; readers = e ∙ readers-part l s b (p .replica) (p .holds); next = p .next; writes = p .writes }
 
-  -- the code's copy: the part lent goes to the front of zeros, k bytes, and comes back as last
-  module _ (k : ℕ) (ek : k ≡ l .readers * 8) (few : l .readers ≤ 16) where
+  -- the code's copy: the readers' cells, from cell f up to cell n, go to the front of zeros and come back as last
+  module _ (f n : ℕ) (ef : f ≡ reader-at 0) (en : n ≡ size-at l) (few : l .readers ≤ 16) where
+    abbrev k : ℕ
+    k = n * 8 - f * 8
+
     abbrev src : List ℕ
-    src = take (136 + k - 136) (drop 136 b)
+    src = midOf (f * 8) k b
 
     abbrev blanks : List ℕ
     blanks = replicate 128 0
 
-    pub same-part : src ≡ midOf 136 k b
-    same-part = let z : 136 + k - 136 ≡ k = omega arith in ap (λ (n : ℕ). take n (drop 136 b)) z
+    pub span : k ≡ l .readers * 8
+    span = omega arith
+
+    pub readers-end : n * 8 ≤ length b
+    readers-end = omega (arith, holds-long l s b (p .replica) (p .holds))
 
     src-length : length src ≡ k
-    src-length = ap length same-part ∙ length-take-le k (drop 136 b) (omega (arith, length-drop 136 b, readers-inside))
+    src-length = length-take-le k (drop (f * 8) b) (omega (arith, length-drop (f * 8) b, readers-end))
 
     pub copy-lent : k ≡ length (take k blanks)
-    copy-lent = sym (length-take-le k blanks (omega arith))
+    copy-lent = sym (length-take-le k blanks (omega (arith, span)))
 
     pub copy-room : length src ≤ length (take k blanks)
     copy-room = omega (arith, src-length, copy-lent)
@@ -116,7 +118,7 @@ module _ (l : Limits) (s : Sane l) (b : List ℕ) (t : ℕ) (ws : List Entry) (p
 
       abbrev pub copy-ready : Ready l b (take k (last ++ drop k blanks)) t ws
       copy-ready =
-          publishing-ready (take k (last ++ drop k blanks)) (take-at last (drop k blanks) k copy-length ∙ copy-all ∙ same-part ∙ ap (λ (n : ℕ). midOf 136 n b) ek)
+          publishing-ready (take k (last ++ drop k blanks)) (take-at last (drop k blanks) k copy-length ∙ copy-all ∙ ap₂ (λ (x w : ℕ). midOf (x * 8) w b) ef span)
 
 -- ---- the committed state after a commit
 
@@ -189,7 +191,7 @@ pub record Answered (l : Limits) (b c : List ℕ) (a : Answer × Replica) (r : C
 module _ (l : Limits) (s : Sane l) (room : Local l) (b c : List ℕ) (cl i : ℕ) (p : Found l b c cl i) where
   pub found-laid : rows.Laid l b
   found-laid =
-      record { whole = holds-length l s b (p .replica) (p .holds); few = omega (arith, get-size l s b (p .replica) (p .holds), p .holds .fits .objects .0); room = room .objects }
+      record { whole = holds-long l s b (p .replica) (p .holds); few = omega (arith, get-size l s b (p .replica) (p .holds), p .holds .fits .objects .0); room = room .objects }
 
   -- the first n values, as they were read
   module _ (n : ℕ) (values : List ℤ) (e : rows.Committed l (cells b) n values) where
@@ -279,10 +281,10 @@ module _ (l : Limits) (s : Sane l) (room : Local l) (b c : List ℕ) (cl sq i : 
       v = with-lasts (set (u .lasts) cl sq) (with-timestamp t (installed t ws u))
 
       -- the areas after both stores
-      module _ (small : sq < 2 ^ 32) (b1 b2 b3 : List ℕ) (h1 : Holds l b1 (installed t ws u)) (w2 : Put b1 b2 0 t) (w3 : Put b2 b3 (last-at cl) sq) where
+      module _ (small : sq < 2 ^ 32) (b1 b2 b3 : List ℕ) (h1 : Holds l b1 (installed t ws u)) (w2 : Put b1 b2 0 t) (o : ℕ) (eo : o ≡ last-at cl) (w3 : Put b2 b3 o sq) where
         pub stored : Holds l b3 v
         stored =
-            put-last l s b2 (with-timestamp t (installed t ws u)) (put-timestamp l s b1 (installed t ws u) h1 t (omega (arith, next-small)) b2 w2) cl (p .client) sq (omega arith) b3 w3
+            put-last l s b2 (with-timestamp t (installed t ws u)) (put-timestamp l s b1 (installed t ws u) h1 t (omega (arith, next-small)) b2 w2) cl (p .client) sq (omega arith) b3 (subst (λ (x : ℕ). Put b2 b3 x sq) eo w3)
 
         abbrev pub found-paired : Paired l b3 c
         found-paired = record { replica = v; holds = stored; bodies = same-bodies l s c u (p .bodies) v (stored .fits) refl }

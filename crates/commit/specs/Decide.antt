@@ -18,11 +18,11 @@ use Rattle.model.specs.declared.Limits.{Limits}
 use Rattle.model.specs.Replica.{Pending, Replica, program, validated, result, pending-of}
 use Rattle.layout.specs.Layout.{body-of}
 use Rattle.layout.specs.Offsets.{Sane, body-width, body-at}
-use Rattle.layout.specs.Holds.{Holds, HoldsBodies}
+use Rattle.layout.specs.Holds.{Holds, HoldsBodies, bodies-long}
 use Rattle.layout.specs.Bodies.{body-part, body-size, body-span}
+use Rattle.layout.specs.Printable.{few-pending}
 use Rattle.commit.specs.declared.Decision.{Decision}
-use Rattle.commit.specs.Restart.{few-pending}
-use Rattle.commit.specs.Leave.{at, bodies-sized}
+use Rattle.commit.specs.Leave.{at}
 
 -- both areas hold a replica, whose transaction i is to be decided on this table of its objects
 pub record Deciding (l : Limits) (b c : List ℕ) (i : ℕ) (vs : List ℤ) : Type 0 where
@@ -54,12 +54,12 @@ module _ (l : Limits) (s : Sane l) (b c : List ℕ) (i : ℕ) (vs : List ℤ) (p
   j = at (p .replica .pending) i
 
   pub decide-there : i < l .pending
-  decide-there = omega (arith, p .there, few-pending l b u (p .holds))
+  decide-there = omega (arith, p .there, few-pending l u (p .holds .fits))
 
   -- the body, from byte x on; n is its first byte
   module _ (x : ℕ) (ex : x ≡ body-at l i) where
     pub body-begins : x < length c
-    body-begins = omega (arith, bodies-sized l s c u (p .bodies), mul-le-mul-right (body-width l) decide-there)
+    body-begins = omega (arith, bodies-long l s c u (p .bodies), mul-le-mul-right (body-width l) decide-there)
 
     module _ (n : ℕ) (en : n ≡ getD c x 0) where
       count : n ≡ size (body-of j)
@@ -68,7 +68,7 @@ module _ (l : Limits) (s : Sane l) (b c : List ℕ) (i : ℕ) (vs : List ℤ) (p
       pub body-ends : x + 1 + 11 * n ≤ length c
       body-ends =
           let f = formed (l .operations) (length vs) (body-of j) (p .formed) in
-          omega (arith, count, f .most, bodies-sized l s c u (p .bodies), mul-le-mul-right (body-width l) decide-there)
+          omega (arith, count, f .most, bodies-long l s c u (p .bodies), mul-le-mul-right (body-width l) decide-there)
 
       pub lent-body : midOf x (x + 1 + 11 * n - x) c ≡ body-of j
       lent-body =

@@ -16,7 +16,6 @@ use mir.Facts.{toZ-ofZ}
 use borrow.Author.Tests.{ltb-true}
 use borrow.Rule.Slice.PartMut.{midOf, putMid}
 use Rattle.cells.specs.Cells.{cells, uncells}
-use Rattle.cells.specs.Laws.{cells-uncells}
 use Rattle.cells.specs.Uncells.{length-uncells}
 use Rattle.arith.specs.Integer.{fits}
 use Rattle.execution.specs.Entries.{Entry, lookup}
@@ -24,29 +23,23 @@ use Rattle.execution.specs.Arrays.{entries}
 use Rattle.execution.specs.Agreement.{both}
 use Rattle.execution.specs.Shape.{Entries, sound}
 use Rattle.model.specs.declared.Limits.{Limits}
-use Rattle.model.specs.ListLaws.{All, all-mapped}
+use Rattle.model.specs.ListLaws.{All, all-in}
 use Rattle.model.specs.Serial.{Version}
 use Rattle.model.specs.Replica as model
 use Rattle.model.specs.Replica.{Replica, opens, prune, pushed}
 use Rattle.model.specs.Versions.{length-install}
 use Rattle.model.specs.Shape.{VersionsShape}
-use Rattle.layout.specs.Layout.{of-reader, record-of, object}
-use Rattle.layout.specs.Lawful.{Word, all-in, all-below}
-use Rattle.layout.specs.Offsets.{Sane, object-width, object-at, record-length}
-use Rattle.layout.specs.Printable.{ValueFits, ObjectFits, record-fits, lawful-record}
-use Rattle.layout.specs.Field.{sized}
-use Rattle.layout.specs.Fields.{sizes}
-use Rattle.layout.specs.Holds.{Holds, with-objects}
-use Rattle.layout.specs.Reading.{object-part}
+use Rattle.layout.specs.Layout.{of-reader, object}
+use Rattle.layout.specs.Lawful.{Word}
+use Rattle.layout.specs.Offsets.{Sane, object-width, object-at}
+use Rattle.layout.specs.Printable.{ValueFits, ObjectFits}
+use Rattle.layout.specs.Holds.{Holds, with-objects, holds-long}
 use Rattle.layout.specs.Writing.{write-object}
+use Rattle.layout.specs.Blocks.{object-block, block-part, readers-stamps}
 use Rattle.versions.specs.Block.{stamps, held-in, block, block-ok, Lent}
 use Rattle.versions.specs.Round.{length-block}
 use Rattle.commit.specs.Versions.{install-none, install-one, install-before, entries-none, entries-end, entry-new, entry-sound}
-use Rattle.commit.specs.Blocks.{object-block, stamps-readers, pushed-fits, lent-versions, lent-ok}
-
-pub holds-length : (l : Limits) (s : Sane l) (b : List ℕ) (u : Replica) → Holds l b u → length b ≡ record-length l
-holds-length l s b u h =
-    ap length (h .same) ∙ sized (lawful-record l s) .len (record-of u) (record-fits l u (h .fits)) ∙ sizes l .2
+use Rattle.commit.specs.Blocks.{pushed-fits, lent-versions, lent-ok}
 
 -- The record area b holds a replica whose versions are in shape, rs are its readers' cells, t is its next timestamp, and ws names different
 -- objects of it.
@@ -119,21 +112,16 @@ module _ (l : Limits) (s : Sane l) (b rs : List ℕ) (t : ℕ) (word : Word t) (
       ek = omega (arith, ew)
 
       pub block-inside : r * 8 + w * 8 ≤ length c
-      block-inside = omega (arith, mul-le-mul-right (object-width l) object-there, holds-length l s c (installed t (entries i os vs) u) h)
+      block-inside = omega (arith, mul-le-mul-right (object-width l) object-there, holds-long l s c (installed t (entries i os vs) u) h)
 
       lent : midOf a k c ≡ uncells (block (l .readers) old)
       lent =
           ap₂ (λ (a k : ℕ). midOf a k c) ea ek
-          ∙ object-part l s c (installed t (entries i os vs) u) h o there
-          ∙ ap (λ (x : List Version). uncells (object l .enc x)) (install-before t (opens (u .readers)) (entries i os vs) o (u .objects) new (u .timestamp) (is-sound .0) shape)
-          ∙ ap uncells (object-block l old)
+          ∙ block-part l s c (installed t (entries i os vs) u) h o there
+          ∙ ap (λ (x : List Version). uncells (block (l .readers) x)) (install-before t (opens (u .readers)) (entries i os vs) o (u .objects) new (u .timestamp) (is-sound .0) shape)
 
-      readers-cells : cells rs ≡ map of-reader (u .readers)
-      readers-cells =
-          ap cells (p .readers) ∙ cells-uncells (map of-reader (u .readers)) (all-below (2 ^ 64) (map of-reader (u .readers)) (omega arith) (all-mapped Word of-reader (u .readers) (p .holds .fits .readers .1)))
-
-      readers-stamps : stamps (cells rs) ≡ opens (u .readers)
-      readers-stamps = ap stamps readers-cells ∙ stamps-readers (u .readers)
+      opened : stamps (cells rs) ≡ opens (u .readers)
+      opened = readers-stamps l b u (p .holds) rs (p .readers)
 
       small : l .readers < 2 ^ 63
       small = omega (arith, s .readers)
@@ -150,7 +138,7 @@ module _ (l : Limits) (s : Sane l) (b rs : List ℕ) (t : ℕ) (word : Word t) (
 
       pub push-ok : block-ok (l .readers) (t - 1) (cells rs) (cells (midOf a k c)) ≡ true
       push-ok =
-          lent-ok (l .readers) old (midOf a k c) old-fits small lent (t - 1) (cells rs) (rw (before, readers-stamps) shape)
+          lent-ok (l .readers) old (midOf a k c) old-fits small lent (t - 1) (cells rs) (rw (before, opened) shape)
 
       -- the block came back as ys; the code's value went through its bits
       pub install-step : (ys : List ℕ) → ys ≡ uncells (block (l .readers) (prune (stamps (cells rs)) (pushed t (held-in (cells (midOf a k c))) (some (toZ w64 (ofZ w64 v)))))) → (d : List ℕ) → d ≡ putMid a k c ys → Holds l d (installed t (entries (i + 1) os vs) u)
@@ -158,7 +146,7 @@ module _ (l : Limits) (s : Sane l) (b rs : List ℕ) (t : ℕ) (word : Word t) (
           let x : List Version = prune (opens (u .readers)) (pushed t old (some v)) in
           let y : ys ≡ uncells (object l .enc x) =
           ey ∙ ap (λ (z : ℤ). uncells (block (l .readers) (prune (stamps (cells rs)) (pushed t (held-in (cells (midOf a k c))) (some z))))) (toZ-ofZ (is-sound .1))
-          ∙ ap₂ (λ (q : List ℕ) (z : List Version). uncells (block (l .readers) (prune q (pushed t z (some v))))) readers-stamps (lent-versions (l .readers) old (midOf a k c) old-fits small lent)
+          ∙ ap₂ (λ (q : List ℕ) (z : List Version). uncells (block (l .readers) (prune q (pushed t z (some v))))) opened (lent-versions (l .readers) old (midOf a k c) old-fits small lent)
           ∙ ap uncells (sym (object-block l x)) in
           subst (λ (z : List (List Version)). Holds l d (with-objects z u))
           (install-one t (opens (u .readers)) (entries i os vs) o (u .objects) new v

@@ -21,19 +21,17 @@ use Rattle.model.specs.Lists.{keep}
 use Rattle.model.specs.ListLaws.{All, map-set}
 use Rattle.model.specs.Replica.{Pending, Replica, pending-of, stays}
 use Rattle.layout.specs.Rows.{flat, table, blank}
-use Rattle.layout.specs.RowLaws.{Uniform, table-length, row-read, row-write}
+use Rattle.layout.specs.RowLaws.{Uniform, row-read, row-write}
 use Rattle.layout.specs.Layout.{of-key, row, row-of, body-of, body}
 use Rattle.layout.specs.Offsets.{Sane, pending-at, row-width, row-at, record-length, body-width, body-at, bodies-length}
 use Rattle.layout.specs.OffsetLaws.{row-span, body-spans}
-use Rattle.layout.specs.Printable.{RowFits, BodyFits, Printable, lawful-body}
+use Rattle.layout.specs.Printable.{RowFits, BodyFits, Printable, lawful-body, few-pending}
 use Rattle.layout.specs.Field.{sized, uniform}
 use Rattle.layout.specs.Fields.{sized-row, sizes}
-use Rattle.layout.specs.Holds.{Holds, HoldsBodies, with-pending}
+use Rattle.layout.specs.Holds.{Holds, HoldsBodies, with-pending, holds-long, bodies-long}
 use Rattle.layout.specs.Reading.{row-part, get-row}
 use Rattle.layout.specs.WritingRows.{write-row, replace-rows}
 use Rattle.layout.specs.Bodies.{replace-bodies}
-use Rattle.commit.specs.Install.{holds-length}
-use Rattle.commit.specs.Restart.{few-pending}
 
 -- both areas hold a replica
 pub record Paired (l : Limits) (b c : List ℕ) : Type 0 where
@@ -82,10 +80,7 @@ module _ (l : Limits) (s : Sane l) (c : List ℕ) (u : Replica) (h : HoldsBodies
   place-count = length-map (map body-of (u .pending)) (body (l .operations) .enc) ∙ length-map (u .pending) body-of
 
   few-places : length places ≤ l .pending
-  few-places = omega (arith, place-count, h .fits .rows .0, length-map (u .pending) row-of)
-
-  pub bodies-sized : length c ≡ bodies-length l
-  bodies-sized = ap length (h .same) ∙ table-length (l .pending) (body-width l) places even few-places
+  few-places = omega (arith, place-count, few-pending l u (h .fits))
 
   -- body i into place k
   module _ (k i : ℕ) (low : k ≤ i) (there : i < length (u .pending)) where
@@ -136,13 +131,13 @@ module _ (l : Limits) (s : Sane l) (b c : List ℕ) (k i : ℕ) (p : Moving l b 
   u = p .replica
 
   pub moving-there : i < l .pending
-  moving-there = omega (arith, p .there, few-pending l b u (p .holds))
+  moving-there = omega (arith, p .there, few-pending l u (p .holds .fits))
 
   pub record-sized : length b ≡ record-length l
-  record-sized = holds-length l s b u (p .holds)
+  record-sized = holds-long l s b u (p .holds)
 
   pub body-sized : length c ≡ bodies-length l
-  body-sized = bodies-sized l s c u (p .bodies)
+  body-sized = bodies-long l s c u (p .bodies)
 
   -- in its place already
   pub moved-none : i ≤ k → Both l b c (moved k i u)
@@ -224,7 +219,7 @@ module _ (l : Limits) (s : Sane l) (b c : List ℕ) (u : Replica) (cl sq n k i :
 
   pub closing-sizes : (length b ≡ record-length l) × (length c ≡ bodies-length l)
   closing-sizes =
-      (holds-length l s b (with-pending (r .queue) u) (r .holds), bodies-sized l s c (with-pending (r .queue) u) (r .bodies))
+      (holds-long l s b (with-pending (r .queue) u) (r .holds), bodies-long l s c (with-pending (r .queue) u) (r .bodies))
 
   module _ (low : i < n) where
     abbrev j : Pending
@@ -234,7 +229,7 @@ module _ (l : Limits) (s : Sane l) (b c : List ℕ) (u : Replica) (cl sq n k i :
     there = omega (arith, r .count)
 
     pub closing-there : i < l .pending
-    closing-there = omega (arith, there, few-pending l b (with-pending (r .queue) u) (r .holds))
+    closing-there = omega (arith, there, few-pending l (with-pending (r .queue) u) (r .holds .fits))
 
     -- its key
     pub closing-key : (a key : ℕ) → a ≡ row-at l i → key ≡ getD (cells b) a 0 → key ≡ of-key (j .sent .client, j .sent .sequence)
@@ -301,10 +296,10 @@ module _ (l : Limits) (s : Sane l) (b c : List ℕ) (k n : ℕ) (p : Clearing l 
   held = p .replica
 
   pub clearing-few : n ≤ l .pending
-  clearing-few = omega (arith, p .count, few-pending l b (p .replica) (p .holds))
+  clearing-few = omega (arith, p .count, few-pending l (p .replica) (p .holds .fits))
 
   pub clearing-sizes : (length b ≡ record-length l) × (length c ≡ bodies-length l)
-  clearing-sizes = (holds-length l s b (p .replica) (p .holds), bodies-sized l s c (p .replica) (p .bodies))
+  clearing-sizes = (holds-long l s b (p .replica) (p .holds), bodies-long l s c (p .replica) (p .bodies))
 
   -- the code's offsets, in cells and in bytes
   module _ (to from x y a : ℕ) (ef : from ≡ row-at l k) (et : to ≡ row-at l n) (ex : x ≡ body-at l k) (ey : y ≡ body-at l n) (ea : a ≡ pending-at l) where

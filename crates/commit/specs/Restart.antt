@@ -6,24 +6,14 @@ use Prim.Native.Nat.{ℕ, zero, suc, _+_, _*_, _-_, _≤_, _<_}
 use native.Mathlib.Omega.{arith}
 use native.Mathlib.Nat.{mul-le-mul-right, not-suc-le-zero, le-of-suc-le-suc}
 use native.Mathlib.Numerals.{add-one}
-use lib.ListN.{length, take, drop, getD, set, replicate, length-map, length-set}
-use Rattle.cells.specs.Cells.{cells, splice}
+use lib.ListN.{length, take, drop, getD, set, replicate, length-set}
+use Rattle.cells.specs.Cells.{splice}
 use Rattle.model.specs.declared.Limits.{Limits}
 use Rattle.model.specs.Replica.{Pending, Replica, pending-of, restarted}
-use Rattle.layout.specs.Layout.{row-of}
-use Rattle.layout.specs.Offsets.{Sane, pending-at, row-width, row-at, record-length}
-use Rattle.layout.specs.Holds.{Holds, with-pending}
-use Rattle.layout.specs.Reading.{get-pending}
+use Rattle.layout.specs.Offsets.{Sane, row-width, row-at, record-length}
+use Rattle.layout.specs.Holds.{Holds, with-pending, holds-long}
 use Rattle.layout.specs.WritingRows.{restart-row}
-use Rattle.commit.specs.Install.{holds-length}
-
--- the record area b holds some replica
-pub record Held (l : Limits) (b : List ℕ) : Type 0 where
-  pub replica : Replica
-  pub holds : Holds l b replica
-
-pub few-pending : (l : Limits) (b : List ℕ) (u : Replica) → Holds l b u → length (u .pending) ≤ l .pending
-few-pending l b u h = omega (arith, h .fits .rows .0, length-map (u .pending) row-of)
+use Rattle.layout.specs.Printable.{few-pending}
 
 -- "the first .. and all after it, go back to their start"
 abbrev pub restarted-from : ℕ → List Pending → List Pending
@@ -48,10 +38,6 @@ pub record Restarting (l : Limits) (b : List ℕ) (u : Replica) (from n i : ℕ)
   pub left : restarted-from i queue ≡ restarted-from from (u .pending)
 
 module _ (l : Limits) (s : Sane l) (b : List ℕ) (u : Replica) (h : Holds l b u) where
-  -- the code reads the count at cell a
-  pub count-read : (a n : ℕ) → a ≡ pending-at l → n ≡ getD (cells b) a 0 → n ≡ length (u .pending)
-  count-read a n ea e = e ∙ ap (λ (x : ℕ). getD (cells b) x 0) ea ∙ get-pending l s b u h
-
   pub restart-start : (from n : ℕ) → n ≡ length (u .pending) → Restarting l b u from n from
   restart-start from n e = record { queue = u .pending; holds = h; count = sym e; left = refl }
 
@@ -61,11 +47,11 @@ module _ (l : Limits) (s : Sane l) (b : List ℕ) (u : Replica) (from n i : ℕ)
       subst (λ (js : List Pending). Holds l b (with-pending js u)) (sym (none-restarted (r .queue) i (omega (arith, r .count))) ∙ r .left) (r .holds)
 
   pub restart-length : length b ≡ record-length l
-  restart-length = holds-length l s b (with-pending (r .queue) u) (r .holds)
+  restart-length = holds-long l s b (with-pending (r .queue) u) (r .holds)
 
   module _ (low : i < n) where
     pub row-there : i < l .pending
-    row-there = omega (arith, few-pending l b (with-pending (r .queue) u) (r .holds), r .count)
+    row-there = omega (arith, few-pending l (with-pending (r .queue) u) (r .holds .fits), r .count)
 
     -- a and e are where the row and the next one start
     module _ (a e : ℕ) (ea : a ≡ row-at l i) (ee : e ≡ row-at l (i + 1)) where

@@ -4,7 +4,7 @@ use mathlib.Core.Logic.{_≢_}
 use mathlib.Core.Bool.{Bool, true, false, not, cond, false≢true}
 use mathlib.Core.Option.{Option, none, some}
 use mathlib.Core.List.{List, [], _∷_, _++_}
-use Prim.Native.Nat.{ℕ, zero, suc, _+_, _<_}
+use Prim.Native.Nat.{ℕ, zero, suc, _<_}
 use native.Mathlib.Omega.{arith}
 use native.Mathlib.Nat.{not-suc-le-zero, le-of-suc-le-suc}
 use lib.IntN.{ℤ, pos}
@@ -16,33 +16,20 @@ use Rattle.execution.specs.Entries.{Entry, lookup, append}
 use Rattle.execution.specs.Arrays.{entryAt, entries}
 use Rattle.execution.specs.Agreement.{both}
 use Rattle.execution.specs.Shape.{is-some, distinct, every}
-use Rattle.model.specs.Lists.{keep, all, mapi}
-use Rattle.model.specs.ListLaws.{All, getD-mapi}
+use Rattle.model.specs.Lists.{mapi}
+use Rattle.model.specs.ListLaws.{All, getD-mapi, set-mapi}
 use Rattle.model.specs.Serial.{Version}
 use Rattle.model.specs.Replica.{held, prune, pushed, install}
 use Rattle.model.specs.Shape.{VersionsShape}
+use Rattle.model.specs.Tests.{keep-all}
 
 -- ---- versions that are all held
-
-keep-all : {A : Type 0} (q : A → Bool) (l : List A) → all q l ≡ true → keep q l ≡ l
-keep-all q [] h = refl
-keep-all q (x ∷ l) h = let k = both (q x) (all q l) h in rw (k .0) (ap (x ∷_) (keep-all q l (k .1)))
 
 pub prune-shaped : (t : ℕ) (rs : List ℕ) (vs : List Version) → VersionsShape t rs vs → prune rs vs ≡ vs
 unfolding prune
 prune-shaped t rs vs v = keep-all (held rs vs) vs (v .each)
 
 -- ---- one object changed
-
-set-mapi : {A B : Type 0} (f g : ℕ → A → B) (l : List A) (i : ℕ) (d : A) → ((j : ℕ) (a : A) → j ≢ i → g j a ≡ f j a) → set (mapi f l) i (g i (getD l i d)) ≡ mapi g l
-set-mapi f g [] i d h = refl
-set-mapi f g (x ∷ l) zero d h = ap (g 0 x ∷_) (sym (same (λ i. g (suc i)) (λ i. f (suc i)) l (λ i a. h (suc i) a (omega arith))))
-  where
-    same : {A B : Type 0} (f g : ℕ → A → B) (l : List A) → ((i : ℕ) (a : A) → f i a ≡ g i a) → mapi f l ≡ mapi g l
-    same f g [] h = refl
-    same f g (x ∷ l) h = rw (h 0 x, same (λ i. f (suc i)) (λ i. g (suc i)) l (λ i. h (suc i)))
-set-mapi f g (x ∷ l) (suc i) d h =
-    rw (h 0 x (omega arith), set-mapi (λ i. f (suc i)) (λ i. g (suc i)) l i d (λ j a n. h (suc j) a (omega arith)))
 
 lookup-end : (ws : List Entry) (o : ℕ) (v : ℤ) → lookup ws o ≡ none → lookup (append ws o v) o ≡ some v
 lookup-end [] o v h = rw (eq-eqb o o refl)
@@ -67,7 +54,7 @@ module _ (t : ℕ) (rs : List ℕ) where
     unfolding install
     install-one v =
         ap (λ (k : Option ℤ). set (mapi (λ o vs. prune rs (pushed t vs (lookup ws o))) objs) o (prune rs (pushed t (getD objs o []) k))) (sym (lookup-end ws o v new))
-        ∙ set-mapi (λ o vs. prune rs (pushed t vs (lookup ws o))) (λ j vs. prune rs (pushed t vs (lookup (append ws o v) j))) objs o []
+        ∙ set-mapi (λ o vs. prune rs (pushed t vs (lookup ws o))) (λ j vs. prune rs (pushed t vs (lookup (append ws o v) j))) objs o [] _ refl
         (λ j vs n. ap (λ (k : Option ℤ). prune rs (pushed t vs k)) (lookup-before ws o v j n))
 
     -- an object not yet written

@@ -21,17 +21,16 @@ use Rattle.model.specs.declared.Limits.{Limits}
 use Rattle.model.specs.Replica as model
 use Rattle.model.specs.Replica.{Pending, Replica, program, restarted}
 use Rattle.model.specs.ShapeRuns.{AllShaped}
+use Rattle.model.specs.ListLaws.{all-in}
 use Rattle.layout.specs.Layout.{row, row-of}
 use Rattle.layout.specs.Offsets.{Sane, row-width, row-at}
-use Rattle.layout.specs.Lawful.{all-in}
-use Rattle.layout.specs.Printable.{RowFits}
-use Rattle.layout.specs.Holds.{Holds, with-pending}
+use Rattle.layout.specs.Printable.{RowFits, few-pending}
+use Rattle.layout.specs.Holds.{Holds, with-pending, holds-long, Held}
 use Rattle.layout.specs.Reading.{row-part}
 use Rattle.rows.specs.RowRun.{run-in, Readable, Loaded}
 use Rattle.rows.specs.Loading.{row-run, row-readable}
 use Rattle.rows.specs.Listed.{length-entries}
-use Rattle.commit.specs.Install.{holds-length}
-use Rattle.commit.specs.Restart.{Held, few-pending, restarted-from, none-restarted}
+use Rattle.commit.specs.Restart.{restarted-from, none-restarted}
 use Rattle.commit.specs.Leave.{at, fits-at}
 
 -- ---- one row, loaded
@@ -47,9 +46,9 @@ module _ (l : Limits) (s : Sane l) (b : List ℕ) (u : Replica) (h : Holds l b u
 
     pub row-ends : r * 8 + w * 8 ≤ length b
     row-ends =
-        let k = few-pending l b u h in
+        let k = few-pending l u (h .fits) in
         let m : i < l .pending = omega arith in
-        omega (arith, mul-le-mul-right (row-width l) m, holds-length l s b u h)
+        omega (arith, mul-le-mul-right (row-width l) m, holds-long l s b u h)
 
     lent-row : part ≡ uncells (row (l .operations) .enc (row-of (at (u .pending) i)))
     lent-row =

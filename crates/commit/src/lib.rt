@@ -20,9 +20,9 @@ ghost use Rattle.model.specs.Calls.{final};
 ghost use Rattle.model.specs.Answers.{delivery};
 ghost use Rattle.layout.specs.Fit.{fit};
 ghost use Rattle.layout.specs.Act.{act};
-ghost use Rattle.layout.specs.Holds.{Holds, with-pending};
+ghost use Rattle.layout.specs.Holds.{Holds, Held, with-pending};
 ghost use Rattle.commit.specs.Install.{Ready, installed};
-ghost use Rattle.commit.specs.Restart.{Held, restarted-from};
+ghost use Rattle.commit.specs.Restart.{restarted-from};
 ghost use Rattle.commit.specs.Walk.{Walking};
 ghost use Rattle.commit.specs.Decide.{Deciding, Decided, decision-of};
 ghost use Rattle.commit.specs.Commit.{Local, Publishing, Found, Tabled, Answered, commit-at};
@@ -302,9 +302,10 @@ fn publish<'a>(
     ensures { λ _. ⌜ ((p : Publishing l (now (records .entry)) timestamp (entries count (now (wo .entry)) (now (wv .entry)))) → Holds l (now (records .exit)) (installed timestamp (entries count (now (wo .entry)) (now (wv .entry))) (p .replica))) ⌝ }
 {
     let mut readers: [u8; 128] = [0; 128];
-    let size = l.readers * 8;
-    let end = 136 + size;
-    bytes::copy(&records[136..end], &mut readers[..size]);
+    let first = layout::reader_at(l, 0) * 8;
+    let end = layout::size_at(l) * 8;
+    let size = end - first;
+    bytes::copy(&records[first..end], &mut readers[..size]);
     install(records, &readers[..size], l, timestamp, wo, wv, count);
 }
 
@@ -329,7 +330,11 @@ fn commit_on(
     let timestamp = cells::get(records, 0) + 1;
     publish(records, l, timestamp, &wo, &wv, stored);
     cells::put(records, 0, timestamp);
-    cells::put(records, 1 + client as usize, sequence as u64);
+    cells::put(
+        records,
+        layout::last_at(l, client as usize),
+        sequence as u64,
+    );
     leave(records, bodies, l, client, sequence);
     execution::overlay(table, &wo, &wv, stored);
     walk(records, l, table);
@@ -376,7 +381,7 @@ pub fn deliver_final(
     if CLIENTS <= client {
         return Delivery::Refused(3);
     }
-    let last = cells::get(records, 1 + client as usize);
+    let last = cells::get(records, layout::last_at(l, client as usize));
     if sequence as u64 <= last {
         return Delivery::Refused(4);
     }

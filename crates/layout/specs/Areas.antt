@@ -33,6 +33,10 @@ module _ (l : Limits) (c : Call) (a : Areas) where
   unfolding act
   act-refused k e f = rw (e, f)
 
+  pub act-accepted : asked l c a ≡ true → refusal l (facts (parse l a)) c ≡ 0 → act l c a ≡ printed l (perform l (parse l a) c)
+  unfolding act
+  act-accepted e f = rw (e, f)
+
 not-done : (k : ℕ) → refused k ≡ done → ⊥
 not-done k e = let z : _≡_ {A = ℕ} 0 1 = cc in omega arith
 
@@ -67,20 +71,20 @@ module _ (l : Limits) (s : Sane l) where
   act-fit c a x f = act-call l c a f (fit-back l s a x f)
 
   -- on the areas of a shaped replica
-  act-print : (c : Call) (u : Replica) → shaped l u ≡ true → act l c (print l u) ≡ printed l (call l u c)
+  pub act-print : (c : Call) (u : Replica) → shaped l u ≡ true → act l c (print l u) ≡ printed l (call l u c)
   act-print c u e =
       let p = parse-print l s u e in
       act-call l c (print l u) (fit-print l s u e) (ap (print l) p) ∙ ap (λ (v : Replica). printed l (call l v c)) p
 
   -- ---- lists of calls
 
-  acts-print : (cs : List Call) (u : Replica) → shaped l u ≡ true → All Typed cs → acts l cs (print l u) ≡ (calls l u cs .0, print l (calls l u cs .1))
+  pub acts-print : (cs : List Call) (u : Replica) → shaped l u ≡ true → All Typed cs → acts l cs (print l u) ≡ (calls l u cs .0, print l (calls l u cs .1))
   unfolding acts calls
   acts-print [] u e g = refl
   acts-print (c ∷ cs) u e g =
       rw (act-print c u e, acts-print cs (call l u c .1) (call-shaped l u c (g .0) e) (g .1))
 
-  calls-shaped : (cs : List Call) (u : Replica) → shaped l u ≡ true → All Typed cs → shaped l (calls l u cs .1) ≡ true
+  pub calls-shaped : (cs : List Call) (u : Replica) → shaped l u ≡ true → All Typed cs → shaped l (calls l u cs .1) ≡ true
   unfolding calls
   calls-shaped [] u e g = e
   calls-shaped (c ∷ cs) u e g = calls-shaped cs (call l u c .1) (call-shaped l u c (g .0) e) (g .1)
@@ -109,10 +113,10 @@ module _ (l : Limits) (s : Sane l) where
       act-open = rw (accepted .0, accepted .1 (parse l a))
 
       module _ (typed : Typed (opening n vs t)) (cs : List Call) (g : All Typed cs) where
-        start : shaped l (opened l vs t) ≡ true
+        pub start : shaped l (opened l vs t) ≡ true
         start = opening-shaped l (facts (parse l a)) n vs t typed (accepted .1 (parse l a))
 
-        acts-open : acts l (opening n vs t ∷ cs) a ≡ (done ∷ calls l (opened l vs t) cs .0, print l (calls l (opened l vs t) cs .1))
+        pub acts-open : acts l (opening n vs t ∷ cs) a ≡ (done ∷ calls l (opened l vs t) cs .0, print l (calls l (opened l vs t) cs .1))
         unfolding acts
         acts-open = rw (act-open, acts-print cs (opened l vs t) start g)
 

@@ -12,16 +12,16 @@ use Rattle.cells.specs.Cells.{splice}
 use Rattle.operation.specs.Body.{size}
 use Rattle.model.specs.declared.Limits.{Limits}
 use Rattle.model.specs.Replica.{Pending, Replica}
-use Rattle.model.specs.ListLaws.{All}
+use Rattle.model.specs.ListLaws.{All, all-in, map-take, map-drop, getD-map-in}
 use Rattle.layout.specs.Rows.{flat, table, blank, padTo}
 use Rattle.layout.specs.RowLaws.{split-rows, rest-rows, drop-blank, table-length, table-full, row-read, take-out}
 use Rattle.layout.specs.Codec.{Codec}
 use Rattle.layout.specs.Layout.{row-of, body-of, body}
 use Rattle.layout.specs.Offsets.{Sane, body-width, body-at}
-use Rattle.layout.specs.Lawful.{Sized, sized, uniform, all-in}
-use Rattle.layout.specs.Printable.{BodyFits, Printable, lawful-body}
-use Rattle.layout.specs.Field.{mid-mid, mid-at, put-put, getD-map-lt}
-use Rattle.layout.specs.Tables.{map-take, map-drop, rows-places, rows-replace}
+use Rattle.layout.specs.Lawful.{Sized, sized, uniform}
+use Rattle.layout.specs.Printable.{BodyFits, Printable, lawful-body, few-pending}
+use Rattle.layout.specs.Field.{mid-mid, mid-at, put-put}
+use Rattle.layout.specs.Tables.{rows-places, rows-replace}
 use Rattle.layout.specs.Holds.{HoldsBodies, with-pending, bodies-long}
 
 module _ (l : Limits) (s : Sane l) (b : List ℕ) (u : Replica) (h : HoldsBodies l b u) where
@@ -35,7 +35,7 @@ module _ (l : Limits) (s : Sane l) (b : List ℕ) (u : Replica) (h : HoldsBodies
   count = length-map (u .pending) body-of
 
   few : length (u .pending) ≤ l .pending
-  few = omega (arith, h .fits .rows .0, length-map (u .pending) row-of)
+  few = few-pending l u (h .fits)
 
   -- ---- reading
 
@@ -52,7 +52,7 @@ module _ (l : Limits) (s : Sane l) (b : List ℕ) (u : Replica) (h : HoldsBodies
         ap (midOf (body-at l i) (body-width l)) (h .same)
         ∙ ap (λ (a : ℕ). midOf a (body-width l) (table (l .pending) (body-width l) (map (c .enc) (map body-of (u .pending))))) (sym (zero-add (body-at l i)))
         ∙ row-read (l .pending) (body-width l) [] (map (c .enc) (map body-of (u .pending))) (uniform even (map body-of (u .pending)) (h .fits .bodies)) i (omega (arith, length-map (map body-of (u .pending)) (c .enc), count))
-        ∙ getD-map-lt (c .enc) (map body-of (u .pending)) i (body-of d) (omega (arith, count))
+        ∙ getD-map-in (c .enc) (map body-of (u .pending)) i (body-of d) [] (omega (arith, count))
         ∙ ap (c .enc) (List·getD-map body-of (u .pending) i d)
 
     -- "the very bytes of the body area that hold it, of its own length"

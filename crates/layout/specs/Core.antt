@@ -3,12 +3,11 @@
 use mathlib.Core.Path.{_≡_, refl}
 use mathlib.Core.Bool.{Bool, true, false, _&&_, and-true}
 use mathlib.Core.List.{List, [], _∷_, map}
-use Prim.Native.Nat.{ℕ, suc, _^_, _≤_}
-use native.Mathlib.Omega.{arith}
+use Prim.Native.Nat.{ℕ, suc, _^_}
 use lib.IntN.{ℤ}
 use lib.Dec.{leb, ltb}
 use lib.Signed.{mag}
-use lib.ListN.{length, length-map}
+use lib.ListN.{length}
 use borrow.Author.Tests.{eq-eqb, le-leb, lt-ltb}
 use Rattle.cells.specs.Cells.{Below}
 use Rattle.arith.specs.Integer.{fits}
@@ -27,7 +26,7 @@ use Rattle.model.specs.Shape.{distinct-keys, size-of}
 use Rattle.model.specs.ShapeCheck.{versions-shaped, key-unspent, run-shaped, in-order, checked, run-encoded, encoded, shaped}
 use Rattle.layout.specs.Layout.{row-of, Areas, parse, lengths, laid}
 use Rattle.layout.specs.Offsets.{Sane}
-use Rattle.layout.specs.Printable.{ValueFits, VersionFits, EntryFits, RunFits, RowFits, ObjectFits, Printable}
+use Rattle.layout.specs.Printable.{ValueFits, VersionFits, EntryFits, RunFits, RowFits, ObjectFits, Printable, few-pending}
 use Rattle.layout.specs.RoundTrips.{parse-fits}
 use Rattle.layout.specs.Fit.{fit}
 
@@ -83,7 +82,7 @@ module _ (m : ℕ) where
 pub shaped-core : (l : Limits) (u : Replica) → Printable l u → shaped l u ≡ core l u
 unfolding shaped checked encoded core
 shaped-core l u g =
-    let few : length (u .pending) ≤ l .pending = omega (arith, g .rows .0, length-map (u .pending) row-of) in
+    let few = few-pending l u g in
     rw (
       le-leb (length (u .objects)) (l .objects) (g .objects .0),
       le-leb (length (u .pending)) (l .pending) few,

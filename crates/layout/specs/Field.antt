@@ -10,10 +10,9 @@ use lib.Seq.{take-at, drop-at, length-take-le, drop-drop, take-add, take-take, d
 use borrow.Rule.Slice.PartMut.{putMid, midOf, same-len-mid}
 use Rattle.cells.specs.Cells.{uncells}
 use Rattle.cells.specs.Uncells.{length-uncells, uncells-part, uncells-back}
-use Rattle.model.specs.ListLaws.{All, map-set}
+use Rattle.model.specs.ListLaws.{All, map-set, all-in, all-set, getD-map-in}
 use Rattle.layout.specs.RowLaws.{put-seam, mid-seam, table-length, row-read, row-write}
 use Rattle.layout.specs.Codec.{Codec, pair, array, counted, inBytes}
-use Rattle.layout.specs.Lawful.{all-in, all-set}
 pub use Rattle.layout.specs.Lawful.{Sized, sized, uniform}
 
 -- ---- a part of a part
@@ -104,11 +103,6 @@ module _ {A B : Type 0} {c : Codec A} {d : Codec B} {P : A → Type 0} {Q : B �
   }
 
 -- ---- row i of a table
-pub getD-map-lt : {A : Type 0} (f : A → List ℕ) (xs : List A) (i : ℕ) (d : A) → i < length xs → getD (map f xs) i [] ≡ f (getD xs i d)
-getD-map-lt f [] i d h = absurd (not-suc-le-zero h)
-getD-map-lt f (x ∷ xs) zero d h = refl
-getD-map-lt f (x ∷ xs) (suc i) d h = getD-map-lt f xs i d (le-of-suc-le-suc h)
-
 module _ {A : Type 0} {c : Codec A} {P : A → Type 0} (u : Sized c P) where
   module _ (p : ℕ) where
     pub sized-counted : Sized (counted p c) (λ xs. (length xs ≤ p) × All P xs)
@@ -123,7 +117,7 @@ module _ {A : Type 0} {c : Codec A} {P : A → Type 0} (u : Sized c P) where
         put = λ x xs. set xs i x;
         inside = omega (arith, mul-le-mul-right (c .size) h);
         len = λ xs g. sized-counted .len xs (g .0, g .1);
-        read = λ xs g. row-read p (c .size) (length xs ∷ []) (map (c .enc) xs) (uniform u xs (g .1)) i (omega (arith, g .2, length-map xs (c .enc))) ∙ getD-map-lt (c .enc) xs i d (g .2);
+        read = λ xs g. row-read p (c .size) (length xs ∷ []) (map (c .enc) xs) (uniform u xs (g .1)) i (omega (arith, g .2, length-map xs (c .enc))) ∙ getD-map-in (c .enc) xs i d [] (g .2);
         write = λ xs g x k. row-write p (c .size) (length xs ∷ []) (map (c .enc) xs) (uniform u xs (g .1)) i (omega (arith, g .2, length-map xs (c .enc))) (c .enc x)
             ∙ rw (length-set xs i x, map-set);
         got = λ xs g. all-in P xs i d (g .1) (g .2);
@@ -138,7 +132,7 @@ module _ {A : Type 0} {c : Codec A} {P : A → Type 0} (u : Sized c P) where
         put = λ x xs. set xs i x;
         inside = omega (arith, mul-le-mul-right (c .size) h);
         len = λ xs g. table-length p (c .size) (map (c .enc) xs) (uniform u xs (g .1)) (omega (arith, length-map xs (c .enc), g .0));
-        read = λ xs g. row-read p (c .size) [] (map (c .enc) xs) (uniform u xs (g .1)) i (omega (arith, g .0, length-map xs (c .enc))) ∙ getD-map-lt (c .enc) xs i d (omega (arith, g .0));
+        read = λ xs g. row-read p (c .size) [] (map (c .enc) xs) (uniform u xs (g .1)) i (omega (arith, g .0, length-map xs (c .enc))) ∙ getD-map-in (c .enc) xs i d [] (omega (arith, g .0));
         write = λ xs g x k. row-write p (c .size) [] (map (c .enc) xs) (uniform u xs (g .1)) i (omega (arith, g .0, length-map xs (c .enc))) (c .enc x) ∙ rw map-set;
         got = λ xs g. all-in P xs i d (g .1) (omega (arith, g .0));
         kept = λ xs g x k. (omega (arith, length-set xs i x, g .0), all-set P xs i x (g .1) k);

@@ -10,7 +10,7 @@ use lib.IntN.{ℤ}
 use lib.Dec.{eqb, leb, ltb}
 use lib.Signed.{mag}
 use lib.ListN.{length, length-map}
-use borrow.Author.Tests.{eq-eqb, leb-true, ltb-true}
+use borrow.Author.Tests.{eq-eqb, leb-true, ltb-true, eqb-true}
 use Rattle.cells.specs.Cells.{Below}
 use Rattle.arith.specs.Integer.{fits}
 use Rattle.operation.specs.Body.{wellFormed}
@@ -28,11 +28,13 @@ use Rattle.model.specs.EarlyResults.{sents}
 use Rattle.model.specs.Shape.{VersionsShape, Unspent, Sets, size-of, RunEncoded, Shape}
 use Rattle.model.specs.ShapeRuns.{State, Standing, state-standing, in-order-states}
 use Rattle.model.specs.ShapeCheck.{shaped, shaped-says}
-use Rattle.layout.specs.Layout.{row-of, body-of, Areas, parse, print, lengths, laid}
-use Rattle.layout.specs.Offsets.{Sane}
+use Rattle.layout.specs.Layout.{row-of, body-of, Areas, parse, print, lengths, laid, record-area, body-area}
+use Rattle.layout.specs.Offsets.{Sane, record-length, bodies-length}
 use Rattle.layout.specs.Lawful.{Word}
 use Rattle.layout.specs.Printable.{ValueFits, ReaderFits, VersionFits, EntryFits, RunFits, RowFits, ObjectFits, any-all, BodyFits, Printable}
 use Rattle.layout.specs.RoundTrips.{print-back, print-lengths, print-laid, print-parse}
+use Rattle.layout.specs.Holds.{Holds, HoldsBodies, laid-holds, laid-bodies}
+use Rattle.layout.specs.Fields.{sizes}
 
 -- "an area of wrong length, or (except at opening) whose contents fail the shape check" is refused with 1
 unfoldable pub fit : Limits → Areas → Bool
@@ -147,3 +149,27 @@ module _ (l : Limits) (s : Sane l) (u : Replica) where
 
 pub fit-back : (l : Limits) (s : Sane l) (a : Areas) → Below 256 (a .0) → fit l a ≡ true → print l (parse l a) ≡ a
 fit-back l s a x e = let f = fit-says l a e in print-parse l s a x (f .lengths) (f .laid)
+
+-- ---- what areas that pass the check hold
+
+module _ (l : Limits) (a : Areas) where
+  pub lengths-say : lengths l a ≡ true → (length (a .0) ≡ record-length l) × (length (a .1) ≡ bodies-length l)
+  unfolding lengths
+  lengths-say n =
+      let (r, b) = both (eqb (length (a .0)) (record-area l .size)) (eqb (length (a .1)) (body-area l 0 .size)) n in
+      (eqb-true (length (a .0)) (record-area l .size) r ∙ sizes l .2, eqb-true (length (a .1)) (body-area l 0 .size) b ∙ sizes l .3)
+
+  pub right-lengths : length (a .0) ≡ record-length l → length (a .1) ≡ bodies-length l → lengths l a ≡ true
+  unfolding lengths
+  right-lengths r b =
+      rw (sizes l .2, sizes l .3, eq-eqb (length (a .0)) (record-length l) r, eq-eqb (length (a .1)) (bodies-length l) b)
+
+  pub fit-shape : fit l a ≡ true → Shape l (parse l a)
+  fit-shape e = shaped-says l (parse l a) .0 (fit-says l a e .shaped)
+
+module _ (l : Limits) (s : Sane l) (a : Areas) (x : Below 256 (a .0)) (e : fit l a ≡ true) where
+  pub fit-holds : Holds l (a .0) (parse l a)
+  fit-holds = let f = fit-says l a e in laid-holds l s a x (f .lengths) (f .laid)
+
+  pub fit-bodies : HoldsBodies l (a .1) (parse l a)
+  fit-bodies = let f = fit-says l a e in laid-bodies l s a x (f .lengths) (f .laid)

@@ -3,7 +3,7 @@ use mathlib.Core.Path.{_≡_, refl, sym, ap, _∙_}
 use mathlib.Core.Bool.{true}
 use mathlib.Core.Option.{Option}
 use mathlib.Core.List.{List}
-use Prim.Native.Nat.{ℕ, _^_, _≤_}
+use Prim.Native.Nat.{ℕ, _^_}
 use native.Mathlib.Omega.{arith}
 use lib.ListN.{length, length-map}
 use Rattle.cells.specs.Cells.{cells, Below}
@@ -11,10 +11,10 @@ use Rattle.cells.specs.Laws.{cells-uncells}
 use Rattle.model.specs.declared.Limits.{Limits}
 use Rattle.model.specs.Serial.{Version}
 use Rattle.model.specs.Replica.{Pending, Replica}
-use Rattle.layout.specs.Layout.{record-cells, record-area, body-area, row-of, body-of, record-of, bodies-of, Areas, parse, print, lengths, laid}
+use Rattle.layout.specs.Layout.{record-cells, record-area, body-area, body-of, record-of, bodies-of, Areas, parse, print, lengths, laid}
 use Rattle.layout.specs.Offsets.{Sane, record-length, bodies-length}
 use Rattle.layout.specs.Lawful.{all-below}
-use Rattle.layout.specs.Printable.{Printable, record-fits, lawful-record-cells, lawful-record, lawful-bodies}
+use Rattle.layout.specs.Printable.{Printable, record-fits, lawful-record-cells, lawful-record, lawful-bodies, few-pending}
 use Rattle.layout.specs.RoundTrips.{print-parse, parse-fits}
 use Rattle.layout.specs.Fields.{sizes}
 
@@ -27,6 +27,11 @@ pub record Holds (l : Limits) (b : List ℕ) (u : Replica) : Type 0 where
 pub record HoldsBodies (l : Limits) (b : List ℕ) (u : Replica) : Type 0 where
   pub same : b ≡ body-area l (length (u .pending)) .enc (bodies-of u)
   pub fits : Printable l u
+
+-- the record area b holds some replica
+pub record Held (l : Limits) (b : List ℕ) : Type 0 where
+  pub replica : Replica
+  pub holds : Holds l b replica
 
 -- ---- one field of a replica changed
 
@@ -74,8 +79,7 @@ print-holds l u g = (record { same = refl; fits = g }, record { same = refl; fit
 
 pub bodies-long : (l : Limits) (s : Sane l) (b : List ℕ) (u : Replica) → HoldsBodies l b u → length b ≡ bodies-length l
 bodies-long l s b u h =
-    let few : length (u .pending) ≤ l .pending = omega (arith, h .fits .rows .0, length-map (u .pending) row-of) in
-    ap length (h .same) ∙ lawful-bodies l s (length (u .pending)) few .len (bodies-of u) (length-map (u .pending) body-of, h .fits .bodies)
+    ap length (h .same) ∙ lawful-bodies l s (length (u .pending)) (few-pending l u (h .fits)) .len (bodies-of u) (length-map (u .pending) body-of, h .fits .bodies)
 
 -- the length and the cells of the record area
 module _ (l : Limits) (s : Sane l) (b : List ℕ) (u : Replica) (h : Holds l b u) where

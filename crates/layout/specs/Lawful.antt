@@ -3,9 +3,9 @@ use mathlib.Core.Path.{_≡_, refl, sym, ap, ap₂, _∙_, subst}
 use mathlib.Core.Bool.{Bool, true, _&&_}
 use mathlib.Core.List.{List, [], _∷_, _++_, map}
 use Prim.Native.Nat.{ℕ, zero, suc, _+_, _-_, _*_, _^_, _≤_, _<_}
-use native.Mathlib.Nat.{not-suc-le-zero, le-of-suc-le-suc, mul-le-mul-right}
+use native.Mathlib.Nat.{not-suc-le-zero, mul-le-mul-right}
 use native.Mathlib.Omega.{arith}
-use lib.ListN.{length, take, drop, getD, set, length-append, length-drop, length-map, length-replicate, take-append-drop}
+use lib.ListN.{length, take, drop, getD, length-append, length-drop, length-map, length-replicate, take-append-drop}
 use lib.Seq.{take-at, drop-at, length-take-le, getD-take}
 use lib.Dec.{leb}
 use borrow.Author.Tests.{le-leb, leb-true}
@@ -14,7 +14,7 @@ use Rattle.cells.specs.Uncells.{length-uncells}
 use Rattle.cells.specs.Laws.{length-cells, uncells-cells, cells-uncells, cells-below, uncells-below}
 use Rattle.execution.specs.Agreement.{both}
 use Rattle.model.specs.Lists.{all}
-use Rattle.model.specs.ListLaws.{All}
+use Rattle.model.specs.ListLaws.{All, all-join, all-take, all-drop}
 use Rattle.cells.specs.Zeros.{zeros, zeros-replicate, zeros-true}
 use Rattle.layout.specs.Rows.{flat, chunks, table, blank, padTo}
 use Rattle.layout.specs.RowLaws.{Uniform, length-chunks, uniform-chunks, table-chunks, table-length, table-pad, chunks-table}
@@ -39,31 +39,6 @@ pub sized : {K : ℕ → Type 0} {A : Type 0} {c : Codec A} {P : A → Type 0} �
 sized u = record { len = u .len }
 
 -- ---- every element
-module _ {A : Type 0} (P : A → Type 0) where
-  pub all-join : (xs ys : List A) → All P xs → All P ys → All P (xs ++ ys)
-  all-join [] ys f g = g
-  all-join (x ∷ xs) ys f g = (f .0, all-join xs ys (f .1) g)
-
-  pub all-take : (n : ℕ) (xs : List A) → All P xs → All P (take n xs)
-  all-take zero xs f = tt
-  all-take (suc n) [] f = tt
-  all-take (suc n) (x ∷ xs) f = (f .0, all-take n xs (f .1))
-
-  pub all-drop : (n : ℕ) (xs : List A) → All P xs → All P (drop n xs)
-  all-drop zero xs f = f
-  all-drop (suc n) [] f = tt
-  all-drop (suc n) (x ∷ xs) f = all-drop n xs (f .1)
-
-  pub all-in : (xs : List A) (i : ℕ) (d : A) → All P xs → i < length xs → P (getD xs i d)
-  all-in [] i d h k = absurd (not-suc-le-zero k)
-  all-in (x ∷ xs) zero d h k = h .0
-  all-in (x ∷ xs) (suc i) d h k = all-in xs i d (h .1) (le-of-suc-le-suc k)
-
-  pub all-set : (xs : List A) (i : ℕ) (x : A) → All P xs → P x → All P (set xs i x)
-  all-set [] i x h k = tt
-  all-set (y ∷ xs) zero x h k = (k, h .1)
-  all-set (y ∷ xs) (suc i) x h k = (h .0, all-set xs i x (h .1) k)
-
 module _ (K : ℕ → Type 0) where
   all-blank : K 0 → (n : ℕ) → All K (blank n)
   all-blank z zero = tt

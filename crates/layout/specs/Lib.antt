@@ -13,6 +13,7 @@ pub mod RowCells
 pub mod Fields
 pub mod Holds
 pub mod Reading
+pub mod Blocks
 pub mod Writing
 pub mod WritingRows
 pub mod Bodies

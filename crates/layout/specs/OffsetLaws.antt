@@ -1,12 +1,12 @@
 -- Offsets lie in their areas, the areas' lengths are far from an overflow, and the limits of both kinds of replica are sane. Assumes nothing.
-use mathlib.Core.Path.{_≡_, refl, ap}
+use mathlib.Core.Path.{_≡_, refl, ap, _∙_}
 use Prim.Native.Nat.{ℕ, _+_, _-_, _*_, _^_, _≤_, _<_}
 use native.Mathlib.Omega.{arith}
-use native.Mathlib.Nat.{mul-le-mul, mul-le-mul-right}
+use native.Mathlib.Nat.{mul-le-mul, mul-le-mul-right, one-mul}
 use Rattle.model.specs.declared.Limits.{Limits}
 use Rattle.model.specs.Limits.{standard, small}
 use Rattle.layout.specs.RowLaws.{split-rows}
-use Rattle.layout.specs.Offsets.{Sane, object-width, object-at, pending-at, row-width, row-at, record-length, body-width, body-at, bodies-length, CellAt, ByteAt}
+use Rattle.layout.specs.Offsets.{Sane, size-at, object-width, object-at, pending-at, row-width, row-at, record-length, body-width, body-at, bodies-length, CellAt, ByteAt}
 
 pub standard-sane : Sane standard
 unfolding standard
@@ -59,6 +59,10 @@ module _ (l : Limits) (s : Sane l) where
 
   -- ---- each offset, from the widths that the code has
 
+  -- timestamp, last numbers, readers and the number of objects
+  pub front-cell : (i : ℕ) → i ≤ size-at l → CellAt l i i
+  front-cell i h = record { exact = refl; inside = omega arith; small = record-small }
+
   pub object-cell : (i : ℕ) → i ≤ l .objects → (w : ℕ) → w ≡ object-width l → CellAt l (object-at l i) (18 + l .readers + i * w)
   object-cell i h w e =
       let a = object-product i h .0 in
@@ -98,3 +102,19 @@ row-span l i q h = omega (arith, split-rows q i (row-width l) h)
 
 pub body-spans : (l : Limits) (i q : ℕ) → i ≤ q → body-at l q - body-at l i ≡ (q - i) * body-width l
 body-spans l i q h = omega (arith, split-rows q i (body-width l) h)
+
+-- from one to the next, in the code's numbers
+one-of : (i w : ℕ) → (i + 1 - i) * w ≡ w
+one-of i w = let e : i + 1 - i ≡ 1 = omega arith in ap (λ (k : ℕ). k * w) e ∙ one-mul w
+
+pub block-span : (l : Limits) (i a e : ℕ) → a ≡ object-at l i → e ≡ object-at l (i + 1) → e * 8 - a * 8 ≡ object-width l * 8
+block-span l i a e ea ee = rw (ea, ee) (object-span l i (i + 1) (omega arith) ∙ one-of i (object-width l * 8))
+
+pub one-row-span : (l : Limits) (i a e : ℕ) → a ≡ row-at l i → e ≡ row-at l (i + 1) → e * 8 - a * 8 ≡ row-width l * 8
+one-row-span l i a e ea ee = rw (ea, ee) (row-span l i (i + 1) (omega arith) ∙ one-of i (row-width l * 8))
+
+-- the blocks of the first n objects
+pub blocks-span : (l : Limits) (n a e : ℕ) → a ≡ object-at l 0 → e ≡ object-at l n → e * 8 - a * 8 ≡ n * (object-width l * 8)
+blocks-span l n a e ea ee =
+    let k : n - 0 ≡ n = omega arith in
+    rw (ea, ee) (object-span l 0 n (omega arith) ∙ ap (λ (j : ℕ). j * (object-width l * 8)) k)

@@ -6,7 +6,7 @@ use mathlib.Core.List.{List, [], _∷_, _++_, map}
 use Prim.Native.Nat.{ℕ, zero, suc, _+_, _*_, _/_, _%_, _^_, _≤_, _<_}
 use native.Mathlib.Omega.{arith}
 use lib.IntN.{ℤ, pos}
-use lib.ListN.{length, replicate, length-append, length-drop, length-replicate, take-append-drop}
+use lib.ListN.{length, replicate, length-append, length-drop, length-map, length-replicate, take-append-drop}
 use lib.Seq.{take-at, drop-at, length-take-le}
 use borrow.Author.Tests.{le-leb, leb-true}
 use mir.Syntax.{w64}
@@ -19,11 +19,11 @@ use Rattle.model.specs.declared.Limits.{Limits}
 use Rattle.model.specs.Calls.{clients}
 use Rattle.model.specs.Serial.{Version}
 use Rattle.model.specs.Replica.{Replica}
-use Rattle.model.specs.ListLaws.{All}
+use Rattle.model.specs.ListLaws.{All, all-join, all-take, all-drop}
 use Rattle.layout.specs.Codec.{Codec, counted}
 use Rattle.layout.specs.Layout.{signed, reader, reader-of, of-reader, key-of, of-key, key, version-of, of-version, version, entry-of, of-entry, entry, parted, joined, within, two, run-of, of-run, run, Row, row, Record, object, record-cells, record-area, body-length, body, body-area, row-of, body-of, record-of, bodies-of}
 use Rattle.layout.specs.Offsets.{Sane}
-use Rattle.layout.specs.Lawful.{Lawful, lawful-cell, lawful-pair, lawful-via, lawful-iso, lawful-rows, lawful-counted, lawful-padded, lawful-bytes, Padded, Byte, Word, all-join, all-take, all-drop}
+use Rattle.layout.specs.Lawful.{Lawful, lawful-cell, lawful-pair, lawful-via, lawful-iso, lawful-rows, lawful-counted, lawful-padded, lawful-bytes, Padded, Byte, Word}
 
 -- ---- one cell
 
@@ -208,6 +208,9 @@ pub record Printable (l : Limits) (u : Replica) : Type 0 where
   pub objects : ObjectsFit l (u .objects)
   pub rows : RowsFit l (map row-of (u .pending))
   pub bodies : All (BodyFits (l .operations)) (map body-of (u .pending))
+
+pub few-pending : (l : Limits) (u : Replica) → Printable l u → length (u .pending) ≤ l .pending
+few-pending l u g = omega (arith, g .rows .0, length-map (u .pending) row-of)
 
 pub record-fits : (l : Limits) (u : Replica) → Printable l u → RecordFits l (record-of u)
 record-fits l u g = (g .timestamp, (g .lasts, (g .readers, (g .objects, g .rows))))

@@ -2,7 +2,7 @@
 use mathlib.Core.Path.{_≡_, refl, sym, ap, ap₂, _∙_}
 use mathlib.Core.Option.{none}
 use mathlib.Core.List.{List, [], map}
-use Prim.Native.Nat.{ℕ, _+_, _-_, _*_, _≤_, _<_}
+use Prim.Native.Nat.{ℕ, _+_, _-_, _*_, _≤_, _<_, _^_}
 use native.Mathlib.Omega.{arith}
 use native.Mathlib.Nat.{mul-assoc}
 use lib.ListN.{length, drop, getD, length-map, length-drop, List·getD-map}
@@ -10,21 +10,23 @@ use borrow.Rule.Slice.PartMut.{midOf}
 use Rattle.cells.specs.Cells.{cells, uncells}
 use Rattle.cells.specs.Uncells.{uncells-part}
 use Rattle.model.specs.declared.Limits.{Limits}
-use Rattle.model.specs.Calls.{clients}
+use Rattle.model.specs.Calls.{clients, lastTimestamp}
 use Rattle.model.specs.Replica.{Pending, Replica}
-use Rattle.model.specs.ListLaws.{All}
+use Rattle.model.specs.ListLaws.{All, map-drop}
+use Rattle.model.specs.Shape.{Shape}
 use Rattle.layout.specs.Rows.{flat, table}
 use Rattle.layout.specs.RowLaws.{table-full}
 use Rattle.layout.specs.Codec.{Codec, counted, inBytes}
 use Rattle.layout.specs.Layout.{of-reader, Row, row, Record, object, record-cells, row-of, record-of}
 use Rattle.layout.specs.Offsets.{Sane, last-at, reader-at, size-at, object-width, object-at, pending-at, row-width, row-at}
-use Rattle.layout.specs.Printable.{ObjectsFit, RowsFit, RecordFits, record-fits}
+use Rattle.layout.specs.Printable.{ObjectsFit, RowsFit, RecordFits, record-fits, few-pending}
 use Rattle.layout.specs.Lawful.{Sized}
 use Rattle.layout.specs.Field.{Field, cell-read, in-bytes}
-use Rattle.layout.specs.Tables.{map-drop, bytes-table, field-places}
+use Rattle.layout.specs.Tables.{bytes-table, field-places}
 use Rattle.layout.specs.RowCells.{array-cells}
 use Rattle.layout.specs.Fields.{With, ObjectThere, RowThere, sized-object, sized-row, sized-objects, sized-rows, timestamp-field, readers-field, objects-field, rows-field, last-field, reader-field, object-field, row-field, sizes, table-offsets, last-offset, reader-offset, object-offset, row-offset}
-use Rattle.layout.specs.Holds.{Holds, holds-cells}
+use Rattle.layout.specs.Holds.{Holds, holds-cells, holds-long}
+use Rattle.layout.specs.OffsetLaws.{object-cell}
 
 module _ (l : Limits) (s : Sane l) (b : List ℕ) (u : Replica) (h : Holds l b u) where
   -- ---- any field: its cells, and the part of the area that it is
@@ -134,7 +136,7 @@ module _ (l : Limits) (s : Sane l) (b : List ℕ) (u : Replica) (h : Holds l b u
 
   module _ (i : ℕ) (k : i < length (u .pending)) (d : Pending) where
     row-low : i < l .pending
-    row-low = omega (arith, h .fits .rows .0, length-map (u .pending) row-of)
+    row-low = omega (arith, few-pending l u (h .fits))
 
     row-known : With l (ObjectsFit l) (RowThere l i) (record-of u)
     row-known =
@@ -152,3 +154,31 @@ module _ (l : Limits) (s : Sane l) (b : List ℕ) (u : Replica) (h : Holds l b u
     get-row j low =
         get-field (row-field l s i row-low (row-of d)) row-known j (omega (arith, sizes l .1)) (row-at l i + j) (omega (arith, row-offset l s i row-low (row-of d)))
         ∙ ap (λ (r : Row). getD (row (l .operations) .enc r) j 0) the-row
+
+  -- ---- bounds on offsets and on what the cells say
+
+  -- timestamp, last numbers, readers and the number of objects
+  pub cell-inside : (i : ℕ) → i ≤ size-at l → i * 8 + 8 ≤ length b
+  cell-inside i k = omega (arith, holds-long l s b u h, object-cell l s 0 (omega arith) (object-width l) refl .inside)
+
+  -- what was read at cell a
+  module _ (a n : ℕ) (e : n ≡ getD (cells b) a 0) where
+    pub last-read : (c : ℕ) → c < clients → a ≡ last-at c → n ≡ getD (u .lasts) c 0
+    last-read c k ea = e ∙ ap (λ (i : ℕ). getD (cells b) i 0) ea ∙ get-last c k
+
+    pub size-read : a ≡ size-at l → n ≡ length (u .objects)
+    size-read ea = e ∙ ap (λ (i : ℕ). getD (cells b) i 0) ea ∙ get-size
+
+    pub size-few : a ≡ size-at l → n ≤ l .objects
+    size-few ea = omega (arith, size-read ea, h .fits .objects .0)
+
+    pub count-read : a ≡ pending-at l → n ≡ length (u .pending)
+    count-read ea = e ∙ ap (λ (i : ℕ). getD (cells b) i 0) ea ∙ get-pending
+
+  pub timestamp-low : Shape l u → getD (cells b) 0 0 < 2 ^ 32
+  unfolding lastTimestamp
+  timestamp-low g = omega (arith, get-timestamp, g .encoded .timestamp)
+
+  -- object i begins in the area, or where the area ends
+  pub object-inside : (i a : ℕ) → i ≤ l .objects → a ≡ object-at l i → a * 8 ≤ length b
+  object-inside i a k e = omega (arith, holds-long l s b u h, object-cell l s i k (object-width l) refl .inside)

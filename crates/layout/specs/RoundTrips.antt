@@ -14,7 +14,7 @@ use Rattle.model.specs.ListLaws.{All}
 use Rattle.layout.specs.Layout.{Row, Record, record-area, body-area, row-of, body-of, all-from, record-of, bodies-of, replica-from, Areas, row-count, parse, print, lengths, laid}
 use Rattle.layout.specs.Offsets.{Sane}
 use Rattle.layout.specs.Lawful.{Byte, below-all}
-use Rattle.layout.specs.Printable.{RecordFits, BodyFits, any-all, lawful-record, lawful-bodies, Printable, record-fits, fits-record}
+use Rattle.layout.specs.Printable.{RecordFits, BodyFits, any-all, lawful-record, lawful-bodies, Printable, record-fits, fits-record, few-pending}
 
 -- ---- rows and bodies, joined and parted
 
@@ -40,7 +40,7 @@ module _ (l : Limits) (s : Sane l) where
     record-back = lawful-record l s .back (record-of u) (record-fits l u g)
 
     few : length (u .pending) ≤ l .pending
-    few = omega (arith, g .rows .0, length-map (u .pending) row-of)
+    few = few-pending l u g
 
     count : row-count (record-of u) ≡ length (u .pending)
     count = length-map (u .pending) row-of

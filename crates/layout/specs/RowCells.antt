@@ -13,15 +13,15 @@ use Rattle.execution.specs.Entries.{Entry}
 use Rattle.execution.specs.Run.{Run, start, register}
 use Rattle.model.specs.declared.Limits.{Limits}
 use Rattle.model.specs.Serial.{Version}
-use Rattle.model.specs.ListLaws.{All}
+use Rattle.model.specs.ListLaws.{All, all-join, getD-map-in}
 use Rattle.layout.specs.Rows.{flat, table, blank}
 use Rattle.layout.specs.RowLaws.{blanks, table-full, row-read}
 use Rattle.layout.specs.Codec.{Codec}
 use Rattle.layout.specs.Layout.{of-key, entry, Row, row, object}
 use Rattle.layout.specs.Offsets.{stamp-at, value-at, register-at, reads-at, entries-at, entry-at}
-use Rattle.layout.specs.Lawful.{sized, uniform, Lawful, all-join}
+use Rattle.layout.specs.Lawful.{sized, uniform, Lawful}
 use Rattle.layout.specs.Printable.{EntryFits, ObjectFits, RowFits, lawful-version, lawful-entry}
-use Rattle.layout.specs.Field.{getD-map-lt, mid-at}
+use Rattle.layout.specs.Field.{mid-at}
 
 -- ---- rows of one cell
 
@@ -40,7 +40,7 @@ module _ {A : Type 0} {c : Codec A} {P : A → Type 0} {K : ℕ → Type 0} (u :
   table-cell k low =
       sym (mid-at (x ++ table p (c .size) (map (c .enc) xs)) (length x + j * c .size) (c .size) k low)
       ∙ ap (λ (z : List ℕ). getD z k 0)
-      (row-read p (c .size) x (map (c .enc) xs) (uniform (sized u) xs g) j (omega (arith, length-map xs (c .enc))) ∙ getD-map-lt (c .enc) xs j d h)
+      (row-read p (c .size) x (map (c .enc) xs) (uniform (sized u) xs g) j (omega (arith, length-map xs (c .enc))) ∙ getD-map-in (c .enc) xs j d [] h)
 
 -- ---- an object's block
 

@@ -1,17 +1,13 @@
 -- Rows of one width, end to end in a list of numbers (cells or bytes). Assumes nothing.
 use mathlib.Core.List.{List, [], _∷_, _++_}
-use Prim.Native.Nat.{ℕ, zero, suc, _-_, _*_}
-use lib.ListN.{length, take, drop, replicate}
+use Prim.Native.Nat.{ℕ, _-_, _*_}
+use lib.ListN.{length, replicate}
+unfoldable pub use Rattle.cells.specs.Rows.{chunks}
 
 -- the rows end to end
 unfoldable pub flat : List (List ℕ) → List ℕ
 flat [] = []
 flat (r ∷ rs) = r ++ flat rs
-
--- n rows of width w from the front of b
-unfoldable pub chunks : ℕ → ℕ → List ℕ → List (List ℕ)
-chunks w zero b = []
-chunks w (suc n) b = take w b ∷ chunks w n (drop w b)
 
 abbrev pub blank : ℕ → List ℕ
 blank n = replicate n 0

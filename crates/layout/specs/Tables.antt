@@ -2,7 +2,7 @@
 -- Assumes nothing.
 use mathlib.Core.Path.{_≡_, refl, sym, ap, ap₂, _∙_}
 use mathlib.Core.List.{List, [], _∷_, _++_, map, map-append, map-map}
-use Prim.Native.Nat.{ℕ, zero, suc, _+_, _-_, _*_, _≤_}
+use Prim.Native.Nat.{ℕ, _+_, _-_, _*_, _≤_}
 use native.Mathlib.Omega.{arith}
 use native.Mathlib.Nat.{mul-assoc, mul-le-mul-right}
 use lib.ListN.{length, take, drop, set, length-append, length-map}
@@ -10,23 +10,12 @@ use lib.Seq.{length-take-le}
 use borrow.Rule.Slice.PartMut.{putMid, midOf}
 use Rattle.cells.specs.Cells.{uncells}
 use Rattle.cells.specs.Uncells.{uncells-append, uncells-zeros}
-use Rattle.model.specs.ListLaws.{All}
+use Rattle.model.specs.ListLaws.{All, map-take, map-drop}
 use Rattle.layout.specs.Rows.{flat, table, blank}
 use Rattle.layout.specs.RowLaws.{split-rows, places-read, places-write}
 use Rattle.layout.specs.Codec.{Codec, counted, inBytes}
 use Rattle.layout.specs.Lawful.{Sized, uniform}
 use Rattle.layout.specs.Field.{Field, mid-mid}
-
-module _ {A B : Type 0} (f : A → B) where
-  pub map-take : (i : ℕ) (xs : List A) → map f (take i xs) ≡ take i (map f xs)
-  map-take zero xs = refl
-  map-take (suc i) [] = refl
-  map-take (suc i) (x ∷ xs) = ap (f x ∷_) (map-take i xs)
-
-  pub map-drop : (i : ℕ) (xs : List A) → map f (drop i xs) ≡ drop i (map f xs)
-  map-drop zero xs = refl
-  map-drop (suc i) [] = refl
-  map-drop (suc i) (x ∷ xs) = map-drop i xs
 
 -- ---- cells in bytes: a table of rows of cells is one of rows of bytes
 

@@ -20,13 +20,13 @@ use Rattle.model.specs.Lists.{all}
 use Rattle.model.specs.Calls.{clients}
 use Rattle.model.specs.Serial.{Version}
 use Rattle.model.specs.Replica.{Pending}
+use Rattle.model.specs.ListLaws.{map-drop}
 use Rattle.layout.specs.Rows.{chunks}
 use Rattle.layout.specs.RowLaws.{length-chunks, chunks-at}
 use Rattle.layout.specs.Codec.{Codec, cell, array, counted}
 use Rattle.layout.specs.Layout.{reader-of, reader, Row, row, object, record-cells, body, body-area, pending-from, all-from, Areas, row-count, parse, laid}
 use Rattle.layout.specs.Offsets.{last-at, reader-at, size-at, object-width, object-at, pending-at, row-width, row-at, record-length, body-width, body-at}
 use Rattle.layout.specs.Field.{drop-take}
-use Rattle.layout.specs.Tables.{map-drop}
 use Rattle.layout.specs.Fields.{sizes}
 
 -- ---- rows of a list

@@ -15,12 +15,12 @@ use Rattle.operation.specs.Body.{registerCount}
 use Rattle.execution.specs.Entries.{Entry}
 use Rattle.model.specs.declared.Limits.{Limits}
 use Rattle.model.specs.Lists.{all}
+use Rattle.model.specs.ListLaws.{map-drop}
 use Rattle.layout.specs.Rows.{chunks}
 use Rattle.layout.specs.RowLaws.{length-chunks}
 use Rattle.layout.specs.Codec.{Codec, cell, pair, via, array, counted}
 use Rattle.layout.specs.Layout.{signed, key-of, version-of, of-version, entry, entry-of, of-entry, two, row, object}
 use Rattle.layout.specs.Offsets.{stamp-at, value-at, counter-at, outcome-at, register-at, reads-at, entries-at, entry-at}
-use Rattle.layout.specs.Tables.{map-drop}
 use Rattle.layout.specs.Unchecked.{chunks-next, chunks-take, chunks-one, array-ok, counted-dec, counted-ok}
 
 -- ---- pairs of a number and a value, from the a-th cell of x on

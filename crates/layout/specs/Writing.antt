@@ -14,13 +14,13 @@ use Rattle.model.specs.declared.Limits.{Limits}
 use Rattle.model.specs.Calls.{clients}
 use Rattle.model.specs.Serial.{Version}
 use Rattle.model.specs.Replica.{Replica}
-use Rattle.model.specs.ListLaws.{All}
+use Rattle.model.specs.ListLaws.{All, all-join, all-take, all-set}
 use Rattle.layout.specs.Rows.{flat, table}
 use Rattle.layout.specs.RowLaws.{split-rows, table-length, table-full}
 use Rattle.layout.specs.Codec.{Codec, counted, inBytes}
 use Rattle.layout.specs.Layout.{of-reader, Record, object, record-cells, record-area, record-of}
 use Rattle.layout.specs.Offsets.{Sane, last-at, reader-at, size-at, object-width, object-at}
-use Rattle.layout.specs.Lawful.{Sized, uniform, Word, all-join, all-take, all-set}
+use Rattle.layout.specs.Lawful.{Sized, uniform, Word}
 use Rattle.layout.specs.Printable.{ReaderFits, ObjectFits, RowsFit, RecordFits, Printable, record-fits, fits-record}
 use Rattle.layout.specs.Field.{Field, cell-write, part-write, count-write, in-bytes}
 use Rattle.layout.specs.Tables.{bytes-table, rows-replace, counted-replace}

@@ -13,16 +13,15 @@ use Rattle.cells.specs.Uncells.{uncells-back, uncells-set, uncells-splice, unce
 use Rattle.execution.specs.Run.{start}
 use Rattle.model.specs.declared.Limits.{Limits}
 use Rattle.model.specs.Replica.{Pending, Replica, restarted}
-use Rattle.model.specs.ListLaws.{All, map-set}
+use Rattle.model.specs.ListLaws.{All, map-set, all-join, all-take, all-drop, all-in, all-set, map-take, map-drop}
 use Rattle.layout.specs.Rows.{flat, table, blank}
 use Rattle.layout.specs.RowLaws.{split-rows, rest-rows, table-full, take-out}
 use Rattle.layout.specs.Codec.{inBytes}
 use Rattle.layout.specs.Layout.{of-key, Row, row, Record, record-cells, record-area, row-of, body-of, record-of}
 use Rattle.layout.specs.Offsets.{Sane, pending-at, row-width, row-at}
-use Rattle.layout.specs.Lawful.{all-join, all-take, all-drop, all-in, all-set}
-use Rattle.layout.specs.Printable.{KeyFits, start-fits, ObjectsFit, RowFits, BodyFits, RecordFits, Printable, record-fits}
+use Rattle.layout.specs.Printable.{KeyFits, start-fits, ObjectsFit, RowFits, BodyFits, RecordFits, Printable, record-fits, few-pending}
 use Rattle.layout.specs.Field.{put-put}
-use Rattle.layout.specs.Tables.{map-take, map-drop, field-places}
+use Rattle.layout.specs.Tables.{field-places}
 use Rattle.layout.specs.RowCells.{row-start}
 use Rattle.layout.specs.Fields.{With, RowThere, sized-row, sized-objects, sized-rows, rows-field, row-field, sizes, table-offsets, row-offset}
 use Rattle.layout.specs.Holds.{Holds, with-pending, holds-long}
@@ -141,7 +140,7 @@ module _ (l : Limits) (s : Sane l) (b : List ℕ) (u : Replica) (h : Holds l b u
       replace-rows i (omega arith) js r g n (omega arith) low-count (omega arith) zs ts e (subst (Put zs ts (pending-at l)) count et)
     where
       low-count : length (u .pending) ≤ l .pending
-      low-count = omega (arith, h .fits .rows .0, length-map (u .pending) row-of)
+      low-count = few-pending l u (h .fits)
 
   -- ---- one more row
 

@@ -3,7 +3,34 @@
 use model::Limits;
 ghost use mathlib.Core.Path.{_≡_};
 ghost use Prim.Native.Nat.{_≤_};
-ghost use Rattle.layout.specs.Offsets.{Sane, object-width, object-at, pending-at, row-width, row-at, record-length, body-width, body-at, bodies-length, CellAt, ByteAt};
+ghost use Rattle.model.specs.Calls.{clients};
+ghost use Rattle.layout.specs.Offsets.{Sane, last-at, reader-at, size-at, object-width, object-at, pending-at, row-width, row-at, record-length, body-width, body-at, bodies-length, CellAt, ByteAt};
+
+// Where a client's last number lies; with client the number of clients, where the readers begin.
+pub fn last_at(l: Limits, client: usize) -> usize
+    requires { ⌜ Sane l ⌝ }
+    requires { ⌜ client ≤ clients ⌝ }
+    ensures { λ r. ⌜ CellAt l (last-at client) r ⌝ }
+{
+    1 + client
+}
+
+// Where a reader's cell lies; with reader the readers' limit, where the last one ends.
+pub fn reader_at(l: Limits, reader: usize) -> usize
+    requires { ⌜ Sane l ⌝ }
+    requires { ⌜ reader ≤ l .readers ⌝ }
+    ensures { λ r. ⌜ CellAt l (reader-at reader) r ⌝ }
+{
+    17 + reader
+}
+
+// Where the number of objects lies.
+pub fn size_at(l: Limits) -> usize
+    requires { ⌜ Sane l ⌝ }
+    ensures { λ r. ⌜ CellAt l (size-at l) r ⌝ }
+{
+    reader_at(l, l.readers)
+}
 
 // The cells of an object's block: a count, and a stamp and a value for each version.
 pub fn object_width(l: Limits) -> usize

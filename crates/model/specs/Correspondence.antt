@@ -47,7 +47,7 @@ facts-same u = rw (length-map (u .objects) newest, opens-same (u .readers))
     opens-same (some a ∷ l) = ap (true ∷_) (opens-same l)
 
 -- both look up the same body
-picked-bytes : (q : Transaction → Bool) (l : List Pending) → bytes-of (pick q (sents l)) ≡ pending-of (pick (λ (j : Pending). q (j .sent)) l) .sent .bytes
+pub picked-bytes : (q : Transaction → Bool) (l : List Pending) → bytes-of (pick q (sents l)) ≡ pending-of (pick (λ (j : Pending). q (j .sent)) l) .sent .bytes
 unfolding start
 picked-bytes q [] = refl
 picked-bytes q (j ∷ l) = go′ (q (j .sent)) (picked-bytes q l)

@@ -1,7 +1,7 @@
 -- An open reader is ended by nothing but its close, and answers from the committed state as it stood when the reader was opened. Assumes nothing.
 use mathlib.Core.Path.{_≡_, refl, sym, ap, _∙_}
 use mathlib.Core.Logic.{_≢_}
-use mathlib.Core.Bool.{Bool, true, false, _||_, true≢false}
+use mathlib.Core.Bool.{Bool, true, false, true≢false}
 use mathlib.Core.Option.{Option, none, some, Option·none-ne-some}
 use mathlib.Core.List.{List, [], _∷_, map}
 use Prim.Native.Nat.{ℕ, zero, suc, _<_}
@@ -22,6 +22,7 @@ use Rattle.model.specs.ListLaws.{or-right, map-all, map-map-same, all-im
 use Rattle.model.specs.Versions.{as-of-prune, as-of-now, as-of-install, table-values}
 use Rattle.model.specs.Refusals.{accepted}
 use Rattle.model.specs.Invariant.{Invariant, opened-invariant, call-invariant, calls-invariant}
+use Rattle.model.specs.Tests.{neither}
 
 -- an opening is judged by its arguments alone
 abbrev pub no-facts : Facts
@@ -133,10 +134,6 @@ module _ (l : Limits) (r : ℕ) where
   calls-open copy (c ∷ cs) u v h q =
       let k = neither (ends l r c) (any (ends l r) cs) q in
       calls-open copy cs (call l u c .1) (call-invariant l u v c) (call-open copy u v h c (k .0)) (k .1)
-    where
-      neither : (a b : Bool) → a || b ≡ false → (a ≡ false) × (b ≡ false)
-      neither true b e = absurd (true≢false e)
-      neither false b e = (refl, e)
 
   -- From any replica that keeps the invariant: reader r is opened, and then come any calls that do not end it. A read of it is not refused, and answers the
   -- value that the object had in the committed state when the reader was opened.

@@ -21,14 +21,14 @@ use Rattle.model.specs.Lists.{pick, keep, any, all}
 use Rattle.model.specs.Calls.{Call, opening, optimistic, execute, final, open-reader, read, close-reader, find, show-body, Transaction, Facts, is-key, leaves, causes, refusal, judged, clients, lastTimestamp}
 use Rattle.model.specs.Serial.{Version}
 use Rattle.model.specs.Replica.{Pending, Replica, opens, held, prune, install, table, program, worked, walk, pending-of, has-key, stays, result, facts, commit, opened, perform, call, calls}
-use Rattle.model.specs.ListLaws.{All, all-mapped, all-keep, all-append, all-map, all-implies, map-keep}
+use Rattle.model.specs.ListLaws.{All, all-mapped, all-keep, all-append, all-map, all-implies, map-keep, all-keep-with, all-both, length-keep}
 use Rattle.model.specs.Versions.{length-install}
 use Rattle.model.specs.EarlyResults.{ordered-keep, ordered-append, walk-ordered, worked-ordered, sents, worked-sents, walk-sents}
 use Rattle.model.specs.Refusals.{accepted}
-use Rattle.model.specs.Tests.{neither}
+use Rattle.model.specs.Tests.{neither, all-after-set}
 use Rattle.model.specs.Shape.{VersionsShape, Shape}
 use Rattle.model.specs.ShapeCheck.{shaped, shaped-says}
-use Rattle.model.specs.ShapeParts.{Fit, Formed, Key, AllFormed, Objects, Queue, objects-part, pending-part, together, all-keep-with, all-both, length-keep, all-set, same-length, distinct-keep, distinct-append, still-unspent, pending-sequence, table-fits, prune-fits, install-fits, install-versions, worked-shaped, walk-shaped, result-shaped, pick-found, opens-kept, opened-who, closed-who}
+use Rattle.model.specs.ShapeParts.{Fit, Formed, Key, AllFormed, Objects, Queue, objects-part, pending-part, together, same-length, distinct-keep, distinct-append, still-unspent, pending-sequence, table-fits, prune-fits, install-fits, install-versions, worked-shaped, walk-shaped, result-shaped, pick-found, opens-kept, opened-who, closed-who}
 use Rattle.model.specs.Held.{close-shape, open-shape}
 
 -- what the types of the code's arguments give: values of 64 bits, timestamps and sequence numbers of 32
@@ -171,7 +171,7 @@ module _ (l : Limits) where
         })
         (record {
           few-pending = (let h = q .few-pending in omega (arith, same-length (walk (table objs) left) left (walk-sents (table objs) left), length-keep (stays c s) (u .pending)));
-          small = all-set (λ x. ltb x (2 ^ 32)) (u .lasts) c s (lt-ltb s (2 ^ 32) (pending-sequence l n (u .lasts) c s (sents (u .pending)) (q .keys) key)) (q .small);
+          small = all-after-set (λ x. ltb x (2 ^ 32)) (u .lasts) c s (lt-ltb s (2 ^ 32) (pending-sequence l n (u .lasts) c s (sents (u .pending)) (q .keys) key)) (q .small);
           last-count = length-set (u .lasts) c s ∙ q .last-count;
           distinct = rw here (distinct-keep (λ x. not (leaves c s x)) (sents (u .pending)) (q .distinct));
           keys = rw (here, size) (all-keep-with (Key l n (u .lasts)) (Key l n (set (u .lasts) c s)) (λ x. not (leaves c s x)) (sents (u .pending)) still (q .keys));

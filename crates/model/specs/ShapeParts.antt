@@ -27,7 +27,7 @@ use Rattle.model.specs.Replica.{Pending, Replica, newest, opens, held, p
 use Rattle.model.specs.ListLaws.{All, all-implies, all-mapi, or-right}
 use Rattle.model.specs.Versions.{opens-set}
 use Rattle.model.specs.EarlyResults.{Ordered, sents}
-use Rattle.model.specs.Tests.{neither, all-keeps}
+use Rattle.model.specs.Tests.{neither, all-keeps, any-keep, any-append}
 use Rattle.model.specs.Shape.{VersionsShape, distinct-keys, Unspent, Shape}
 use Rattle.model.specs.ShapeRuns.{AllShaped, order-ordered, order-shaped, ordered-order, all-sets, all-encoded}
 use Rattle.model.specs.ShapeCheck.{bodies-non-empty}
@@ -64,7 +64,7 @@ pub record PendingPart (l : Limits) (n : ℕ) (lasts : List ℕ) (js : List Pend
   pub ordered : Ordered js
   pub runs : AllShaped n js
 
-opens-few : (rs : List (Option ℕ)) → length (opens rs) ≤ length rs
+pub opens-few : (rs : List (Option ℕ)) → length (opens rs) ≤ length rs
 opens-few [] = omega arith
 opens-few (none ∷ rs) = omega (arith, opens-few rs)
 opens-few (some r ∷ rs) = omega (arith, opens-few rs)
@@ -139,49 +139,10 @@ module _ (l : Limits) (u : Replica) where
       bodies : All (Formed l n) ts
       bodies = all-implies (Key l n (u .lasts)) (Formed l n) (λ s h. h .body) ts (q .keys)
 
--- ---- lists
-
-pub all-keep-with : {A : Type 0} (P Q : A → Type 0) (q : A → Bool) (xs : List A) → ((a : A) → q a ≡ true → P a → Q a) → All P xs → All Q (keep q xs)
-all-keep-with P Q q [] h p = tt
-all-keep-with P Q q (x ∷ xs) h p = go′ (q x) refl (all-keep-with P Q q xs h (p .1))
-  where
-    go′ : (b : Bool) → q x ≡ b → All Q (keep q xs) → All Q (cond b (x ∷ keep q xs) (keep q xs))
-    go′ true e k = (h x e (p .0), k)
-    go′ false e k = k
-
-pub all-both : {A : Type 0} (P Q R : A → Type 0) (xs : List A) → ((a : A) → P a → Q a → R a) → All P xs → All Q xs → All R xs
-all-both P Q R [] f p q = tt
-all-both P Q R (x ∷ xs) f p q = (f x (p .0) (q .0), all-both P Q R xs f (p .1) (q .1))
-
-pub length-keep : {A : Type 0} (q : A → Bool) (xs : List A) → length (keep q xs) ≤ length xs
-length-keep q [] = omega arith
-length-keep q (x ∷ xs) = go′ (q x) (length-keep q xs)
-  where
-    go′ : (b : Bool) → length (keep q xs) ≤ length xs → length (cond b (x ∷ keep q xs) (keep q xs)) ≤ suc (length xs)
-    go′ true h = omega arith
-    go′ false h = omega arith
-
-any-keep : {A : Type 0} (q p : A → Bool) (xs : List A) → any q xs ≡ false → any q (keep p xs) ≡ false
-any-keep q p [] h = refl
-any-keep q p (x ∷ xs) h = let k = neither (q x) (any q xs) h in go′ (p x) (k .0) (any-keep q p xs (k .1))
-  where
-    go′ : (b : Bool) → q x ≡ false → any q (keep p xs) ≡ false → any q (cond b (x ∷ keep p xs) (keep p xs)) ≡ false
-    go′ true e i = rw (e, i)
-    go′ false e i = i
-
-any-append : {A : Type 0} (q : A → Bool) (xs : List A) (x : A) → any q xs ≡ false → q x ≡ false → any q (xs ++ (x ∷ [])) ≡ false
-any-append q [] x h e = rw e
-any-append q (y ∷ xs) x h e = let k = neither (q y) (any q xs) h in rw (k .0) (any-append q xs x (k .1) e)
-
-pub all-set : (q : ℕ → Bool) (xs : List ℕ) (i z : ℕ) → q z ≡ true → all q xs ≡ true → all q (set xs i z) ≡ true
-all-set q [] i z e h = refl
-all-set q (x ∷ xs) zero z e h = rw (e, both (q x) (all q xs) h .1)
-all-set q (x ∷ xs) (suc i) z e h = let k = both (q x) (all q xs) h in rw (k .0, all-set q xs i z e (k .1))
+-- ---- keys
 
 pub same-length : (a b : List Pending) → sents a ≡ sents b → length a ≡ length b
 same-length a b e = sym (length-map a (λ (j : Pending). j .sent)) ∙ ap length e ∙ length-map b (λ (j : Pending). j .sent)
-
--- ---- keys
 
 eqb-sym : (m n : ℕ) → eqb m n ≡ eqb n m
 eqb-sym m n = go′ (eqb m n) refl

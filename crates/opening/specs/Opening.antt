@@ -200,14 +200,14 @@ module _ (l : Limits) (s : Sane l) (vs : List ℤ) (few : length vs ≤ l .objec
       each [] f = tt
       each (v ∷ vs) f = ((omega arith, ((word, f .0), tt)), each vs (f .1))
 
-  -- b: the record area with the objects' blocks; c: with their number too; d: with the timestamp too
+  -- b: the record area with the objects' blocks; c: with their number too, at cell i; d: with the timestamp too
   pub opened-areas : (b c d : List ℕ) → b ≡ putMid (object-at l 0 * 8) (length vs * (object-width l * 8)) (blank (record-length l)) (opened-blocks (l .readers) t vs)
-      → Put b c (size-at l) (length vs) → Put c d 0 t → (bs : List ℕ) → bs ≡ blank (bodies-length l) → (d, bs) ≡ print l (opened l vs t)
+      → (i : ℕ) → i ≡ size-at l → Put b c i (length vs) → Put c d 0 t → (bs : List ℕ) → bs ≡ blank (bodies-length l) → (d, bs) ≡ print l (opened l vs t)
   unfolding opened-blocks empty
-  opened-areas b c d e p q bs eb =
+  opened-areas b c d e i ei p q bs eb =
       let n : length (started t vs) ≡ length vs = length-map vs (λ v. record { stamp = t; value = v } ∷ []) in
       let h : Holds l c (with-objects (started t vs) (empty l)) =
-      open-objects l s (blank (record-length l)) (empty l) (empty-holds l) refl (started t vs) (omega arith) started-fits b c (e ∙ rw n) (rw n p) in
+      open-objects l s (blank (record-length l)) (empty l) (empty-holds l) refl (started t vs) (omega arith) started-fits b c (e ∙ rw n) (rw (n, ← ei) p) in
       let k = put-timestamp l s c (with-objects (started t vs) (empty l)) h t word d q in
       let bodies : HoldsBodies l bs (with-timestamp t (with-objects (started t vs) (empty l))) = record { same = eb ∙ empty-bodies l .same; fits = k .fits } in
       holds-print l d bs (with-timestamp t (with-objects (started t vs) (empty l))) k bodies

@@ -36,6 +36,6 @@ pub fn fill(records: &mut [u8], bodies: &mut [u8], l: Limits, values: &[i64], ti
     let first = layout::object_at(l, 0) * 8;
     let end = layout::object_at(l, n) * 8;
     put_objects(&mut records[first..end], l.readers, values, t);
-    cells::put(records, 17 + l.readers, n as u64);
+    cells::put(records, layout::size_at(l), n as u64);
     cells::put(records, 0, t);
 }

@@ -21,12 +21,12 @@ use Rattle.operation.specs.Body.{registerCount, isRegister, longestSkip,
 
 -- ---- the operations as a list
 
-length-listed : {A : Type 0} (f : ℕ → A) (m : ℕ) → length (listed f m) ≡ m
+pub length-listed : {A : Type 0} (f : ℕ → A) (m : ℕ) → length (listed f m) ≡ m
 unfolding listed
 length-listed f zero = refl
 length-listed f (suc m) = ap suc (length-listed (λ i. f (suc i)) m)
 
-getD-listed : {A : Type 0} (f : ℕ → A) (m i : ℕ) (d : A) → i < m → getD (listed f m) i d ≡ f i
+pub getD-listed : {A : Type 0} (f : ℕ → A) (m i : ℕ) (d : A) → i < m → getD (listed f m) i d ≡ f i
 unfolding listed
 getD-listed f zero i d h = absurd (none i h)
   where

@@ -26,8 +26,8 @@ use Rattle.layout.specs.WritingRows.{append-new}
 use Rattle.layout.specs.Bodies.{append-body}
 use Rattle.layout.specs.Fit.{fit}
 use Rattle.layout.specs.Act.{act}
-use Rattle.layout.specs.Areas.{act-refused}
-use Rattle.queue.specs.Found.{position, queued, act-accepted}
+use Rattle.layout.specs.Areas.{act-refused, act-accepted}
+use Rattle.queue.specs.Found.{position, queued}
 
 -- ---- the writes, on bytes
 
@@ -124,7 +124,7 @@ module _ (l : Limits) (a : Areas) (fine : fit l a ≡ true) (c s : ℕ) (x : Lis
           pub deliver-0 : length (u .pending) < l .pending → Sane l → s < 2 ^ 32 → Holds l (a .0) u → HoldsBodies l (a .1) u → (n key : ℕ) → n ≡ length (u .pending) → key ≡ of-key (c, s) → (r′ b′ : List ℕ) → Appended l (a .0) (a .1) n key x r′ b′ → Answers done (r′, b′)
           unfolding perform clients
           deliver-0 h₅ o small hr hb n key e f r′ b′ y =
-              let q = act-accepted l a fine c s (optimistic c s x) fine (tests false false false true false (lt-leb clients c h₁) (lt-leb s (getD (u .lasts) c 0) h₂) (le-ltb (position l a fine c s) (length (u .pending)) h₃) h₄ (lt-leb (l .pending) (length (u .pending)) h₅)) in
+              let q = act-accepted l (optimistic c s x) a fine (tests false false false true false (lt-leb clients c h₁) (lt-leb s (getD (u .lasts) c 0) h₂) (le-ltb (position l a fine c s) (length (u .pending)) h₃) h₄ (lt-leb (l .pending) (length (u .pending)) h₅)) in
               let g = formed (l .operations) (length (u .objects)) x h₄ in (
                 sym (ap (λ (y : Answer × Areas). y .0) q),
                 appended l o (a .0) (a .1) u hr hb c s x n key e f (omega arith) (omega arith, small) (g .whole, omega (arith, g .most, g .whole), any-all x) r′ b′ y ∙ sym (ap (λ (y : Answer × Areas). y .1) q),

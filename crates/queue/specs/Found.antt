@@ -1,48 +1,25 @@
 -- What Find, Show body and optimistic delivery answer, from where the key stands among the pending transactions. Assumes nothing.
 use mathlib.Core.Path.{_≡_, refl, sym, ap, _∙_}
-use mathlib.Core.Bool.{Bool, true, false, not, cond, _||_}
-use mathlib.Core.Option.{Option, some, none}
+use mathlib.Core.Bool.{Bool, true, false, not}
+use mathlib.Core.Option.{Option, none}
 use mathlib.Core.List.{List, [], _∷_, map}
-use Prim.Native.Nat.{ℕ, suc, _+_, _*_, _≤_, _<_, compare·suc-suc}
+use Prim.Native.Nat.{ℕ, _+_, _*_, _≤_, _<_}
 use native.Mathlib.Omega.{arith}
-use native.Mathlib.Nat.{not-suc-le-zero, le-of-suc-le-suc}
 use lib.Dec.{leb, ltb}
 use lib.ListN.{length, getD}
 use borrow.Author.Tests.{leb-true, leb-false, ltb-true, ltb-false, lt-ltb, le-ltb, le-leb, lt-leb}
 use Rattle.model.specs.declared.Limits.{Limits}
 use Rattle.model.specs.Lists.{any, pick, index}
-use Rattle.model.specs.Calls.{clients, Call, find, show-body, Answer, refused, found, body, is-key, first-cause, causes, refusal, shown}
+use Rattle.model.specs.Calls.{clients, find, show-body, Answer, refused, found, body, is-key, first-cause, causes, refusal, shown}
 use Rattle.model.specs.Replica.{Pending, facts, perform, has-key, pending-of}
+use Rattle.model.specs.ListLaws.{any-map, any-index, pick-index}
 use Rattle.layout.specs.Layout.{body-of, Areas, parse}
 use Rattle.layout.specs.Offsets.{Sane, body-at}
 use Rattle.layout.specs.Holds.{HoldsBodies}
 use Rattle.layout.specs.Bodies.{body-size, body-span}
 use Rattle.layout.specs.Fit.{fit}
-use Rattle.layout.specs.Act.{act, asked, printed}
-use Rattle.layout.specs.Areas.{act-refused}
-
--- ---- the first that passes, by its position
-
-module _ {A : Type 0} (q : A → Bool) where
-  any-index : (xs : List A) → any q xs ≡ ltb (index q xs) (length xs)
-  any-index [] = refl
-  any-index (x ∷ xs) = by (q x) (any-index xs)
-    where
-      by : (t : Bool) → any q xs ≡ ltb (index q xs) (length xs) → (t || any q xs) ≡ ltb (cond t 0 (suc (index q xs))) (suc (length xs))
-      by true e = sym (lt-ltb 0 (suc (length xs)) (omega arith))
-      by false e = rw compare·suc-suc e
-
-  pick-index : (d : A) (xs : List A) → index q xs < length xs → pick q xs ≡ some (getD xs (index q xs) d)
-  pick-index d [] h = absurd (not-suc-le-zero h)
-  pick-index d (x ∷ xs) h = by (q x) h (pick-index d xs)
-    where
-      by : (t : Bool) → cond t 0 (suc (index q xs)) < suc (length xs) → (index q xs < length xs → pick q xs ≡ some (getD xs (index q xs) d)) → cond t (some x) (pick q xs) ≡ some (getD (x ∷ xs) (cond t 0 (suc (index q xs))) d)
-      by true h k = refl
-      by false h k = k (le-of-suc-le-suc h)
-
-any-map : {A B : Type 0} (f : A → B) (q : B → Bool) (xs : List A) → any q (map f xs) ≡ any (λ x. q (f x)) xs
-any-map f q [] = refl
-any-map f q (x ∷ xs) = ap (λ (t : Bool). q (f x) || t) (any-map f q xs)
+use Rattle.layout.specs.Act.{act}
+use Rattle.layout.specs.Areas.{act-refused, act-accepted}
 
 -- stands for a transaction past the last
 abbrev pub nothing : Pending
@@ -58,10 +35,6 @@ module _ (l : Limits) (a : Areas) (fine : fit l a ≡ true) (c s : ℕ) where
 
   pub queued : any (is-key c s) (map (λ (j : Pending). j .sent) all-pending) ≡ ltb position (length all-pending)
   queued = any-map (λ (j : Pending). j .sent) (is-key c s) all-pending ∙ any-index (has-key c s) all-pending
-
-  pub act-accepted : (x : Call) → asked l x a ≡ true → refusal l (facts (parse l a)) x ≡ 0 → act l x a ≡ printed l (perform l (parse l a) x)
-  unfolding act
-  act-accepted x e r = rw (e, r)
 
   -- ---- Find
 
@@ -82,7 +55,7 @@ module _ (l : Limits) (a : Areas) (fine : fit l a ≡ true) (c s : ℕ) where
   unfolding perform
   find-0 h k =
       sym
-      (ap (λ (x : Answer × Areas). x .0) (act-accepted (find c s) fine (find-causes false true (lt-leb clients c h) (lt-ltb position (length all-pending) k)))
+      (ap (λ (x : Answer × Areas). x .0) (act-accepted l (find c s) a fine (find-causes false true (lt-leb clients c h) (lt-ltb position (length all-pending) k)))
       ∙ ap (λ (x : Option Pending). found position (length (pending-of x .sent .bytes))) (pick-index (has-key c s) nothing all-pending k))
 
   -- in the code's numbers: the first byte of a body says its length
@@ -110,7 +83,7 @@ module _ (l : Limits) (a : Areas) (fine : fit l a ≡ true) (c s : ℕ) where
 
   show-act : act l (show-body c s) a .0 ≡ body (shown picked (refusal l (facts (parse l a)) (find c s)))
   unfolding refusal causes perform
-  show-act = ap (λ (x : Answer × Areas). x .0) (act-accepted (show-body c s) fine refl)
+  show-act = ap (λ (x : Answer × Areas). x .0) (act-accepted l (show-body c s) a fine refl)
 
   pub show-refused : (k : ℕ) → act l (find c s) a .0 ≡ refused k → act l (show-body c s) a .0 ≡ body []
   show-refused k e =

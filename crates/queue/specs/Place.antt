@@ -2,47 +2,32 @@
 use mathlib.Core.Path.{_≡_, refl, sym, ap, ap₂, _∙_}
 use mathlib.Core.Bool.{Bool, true, false, _&&_}
 use mathlib.Core.Option.{none}
-use mathlib.Core.List.{List, [], _∷_, map}
-use Prim.Native.Nat.{ℕ, zero, suc, _+_, _-_, _*_, _^_, _≤_, _<_}
+use mathlib.Core.List.{List, map}
+use Prim.Native.Nat.{ℕ, _+_, _-_, _*_, _^_, _≤_, _<_}
 use native.Mathlib.Omega.{arith}
-use native.Mathlib.Nat.{mul-le-mul-right, not-suc-le-zero, le-of-suc-le-suc}
+use native.Mathlib.Nat.{mul-le-mul-right}
 use lib.Dec.{eqb}
 use lib.ListN.{length, take, drop, getD, length-map, length-drop}
 use lib.Seq.{take-all, getD-drop, ext-getD, length-take-le}
 use borrow.Author.Tests.{eq-eqb, ne-eqb, eqb-true, eqb-false}
-use Rattle.cells.specs.Cells.{cells, Below}
+use Rattle.cells.specs.Cells.{cells}
 use Rattle.cells.specs.Laws.{cells-drop}
 use Rattle.model.specs.declared.Limits.{Limits}
 use Rattle.model.specs.Lists.{index}
 use Rattle.model.specs.Replica.{Pending, Replica, has-key, pending-of}
-use Rattle.model.specs.ListLaws.{All, index-map, all-map, all-implies}
-use Rattle.layout.specs.Layout.{of-key, row-of, Areas, parse}
+use Rattle.model.specs.ListLaws.{index-map, all-map, all-implies, index-same, getD-map-in}
+use Rattle.layout.specs.Layout.{of-key, row-of}
 use Rattle.layout.specs.Offsets.{Sane, row-width, row-at}
-use Rattle.layout.specs.Printable.{RowFits}
-use Rattle.layout.specs.Holds.{Holds, HoldsBodies, holds-long, laid-holds, laid-bodies}
-use Rattle.layout.specs.Fit.{fit, fit-says}
+use Rattle.layout.specs.Printable.{RowFits, few-pending}
+use Rattle.layout.specs.Holds.{Holds, holds-long}
 use Rattle.layout.specs.Reading.{get-row}
 use Rattle.queue.specs.declared.Place.{Place}
 use Rattle.queue.specs.Keys.{keys, length-keys, getD-keys}
-
--- the record area b holds some replica
-pub record Held (l : Limits) (b : List ℕ) : Type 0 where
-  pub replica : Replica
-  pub holds : Holds l b replica
 
 -- what `locate` ensures, of whichever replica the record area holds
 pub record Located (l : Limits) (b : List ℕ) (c s : ℕ) (r : Place) : Type 0 where
   pub position : (u : Replica) → Holds l b u → r .position ≡ index (has-key c s) (u .pending)
   pub count : (u : Replica) → Holds l b u → r .count ≡ length (u .pending)
-
-index-same : {A : Type 0} (p q : A → Bool) (l : List A) → All (λ x. p x ≡ q x) l → index p l ≡ index q l
-index-same p q [] h = refl
-index-same p q (x ∷ l) h = rw (h .0, index-same p q l (h .1))
-
-getD-map-in : {A : Type 0} (f : A → ℕ) (l : List A) (i d : ℕ) (a : A) → i < length l → getD (map f l) i d ≡ f (getD l i a)
-getD-map-in f [] i d a h = absurd (not-suc-le-zero h)
-getD-map-in f (x ∷ l) zero d a h = refl
-getD-map-in f (x ∷ l) (suc i) d a h = getD-map-in f l i d a (le-of-suc-le-suc h)
 
 -- two keys are one cell exactly where both parts are equal
 same-key : (c s c′ s′ : ℕ) → s < 2 ^ 32 → s′ < 2 ^ 32 → eqb (of-key (c, s)) (of-key (c′, s′)) ≡ (eqb c′ c && eqb s′ s)
@@ -54,9 +39,6 @@ same-key c s c′ s′ h h′ = by (eqb c′ c) (eqb s′ s) refl refl
     by false y e f = ne-eqb (of-key (c, s)) (of-key (c′, s′)) (λ z. eqb-false c′ c e (omega arith))
 
 module _ (l : Limits) (s : Sane l) (b : List ℕ) (u : Replica) (h : Holds l b u) where
-  pub few-pending : length (u .pending) ≤ l .pending
-  few-pending = omega (arith, h .fits .rows .0, length-map (u .pending) row-of)
-
   abbrev cell-of : Pending → ℕ
   cell-of j = of-key (row-of j .0)
 
@@ -74,14 +56,14 @@ module _ (l : Limits) (s : Sane l) (b : List ℕ) (u : Replica) (h : Holds l b u
       ∙ getD-drop (row-at l 0) (cells b) (i * w) 0
       ∙ ap (λ (j : ℕ). getD (cells b) j 0) e
       ∙ get-row l s b u h i low d 0 (omega arith)
-      ∙ sym (getD-map-in cell-of (u .pending) i 0 d low))
+      ∙ sym (getD-map-in cell-of (u .pending) i d 0 low))
 
   -- the search over the part of the area from the first row on, in the code's numbers: it stays in that part, and finds the transaction
   module _ (at k w n : ℕ) (first : at ≡ row-at l 0 * 8) (rest : k ≡ length b - at) (wide : w ≡ row-width l) (all : n ≡ length (u .pending)) where
     pub rows-room : (0 < w) × (n * w * 8 ≤ length (take k (drop at b)))
     rows-room =
         let len : length (take k (drop at b)) ≡ k = length-take-le k (drop at b) (omega (arith, length-drop at b)) in
-        let m : n * w ≤ l .pending * row-width l = rw (wide, all) (mul-le-mul-right (row-width l) few-pending) in
+        let m : n * w ≤ l .pending * row-width l = rw (wide, all) (mul-le-mul-right (row-width l) (few-pending l u (h .fits))) in
         (omega arith, omega (arith, holds-long l s b u h))
 
     pub position-of : (c q key : ℕ) → q < 2 ^ 32 → key ≡ of-key (c, q) → index (eqb key) (keys w n (cells (take k (drop at b)))) ≡ index (has-key c q) (u .pending)
@@ -94,11 +76,3 @@ module _ (l : Limits) (s : Sane l) (b : List ℕ) (u : Replica) (h : Holds l b u
         ∙ index-same (λ j. eqb (of-key (c, q)) (cell-of j)) (has-key c q) (u .pending)
         (all-implies (λ (j : Pending). RowFits (l .operations) (row-of j)) (λ j. eqb (of-key (c, q)) (cell-of j) ≡ has-key c q j) (λ j r. same-key c q (j .sent .client) (j .sent .sequence) m (r .0 .1)) (u .pending)
         (all-map (RowFits (l .operations)) row-of (u .pending) (h .fits .rows .1)))
-
--- areas that pass the shape check hold what they parse to
-module _ (l : Limits) (s : Sane l) (a : Areas) (x : Below 256 (a .0)) (fine : fit l a ≡ true) where
-  pub fit-holds : Holds l (a .0) (parse l a)
-  fit-holds = let f = fit-says l a fine in laid-holds l s a x (f .lengths) (f .laid)
-
-  pub fit-bodies : HoldsBodies l (a .1) (parse l a)
-  fit-bodies = let f = fit-says l a fine in laid-bodies l s a x (f .lengths) (f .laid)

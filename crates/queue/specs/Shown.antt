@@ -9,10 +9,10 @@ use lib.ListN.{length, take, drop, getD, length-map, List·getD-map}
 use denote.Ref.{RefT, now, ptr}
 use Rattle.model.specs.declared.Limits.{Limits}
 use Rattle.model.specs.Calls.{find, show-body, Answer, refused, done, executed, committed, value, found, body}
-use Rattle.layout.specs.Layout.{row-of, body-of, Areas, parse}
+use Rattle.model.specs.ListLaws.{all-in}
+use Rattle.layout.specs.Layout.{body-of, Areas, parse}
 use Rattle.layout.specs.Offsets.{Sane, body-width, body-at}
-use Rattle.layout.specs.Lawful.{all-in}
-use Rattle.layout.specs.Printable.{BodyFits}
+use Rattle.layout.specs.Printable.{BodyFits, few-pending}
 use Rattle.layout.specs.OffsetLaws.{body-room}
 use Rattle.layout.specs.Holds.{HoldsBodies, bodies-long}
 use Rattle.layout.specs.Bodies.{body-part, body-span}
@@ -72,7 +72,7 @@ module _ (l : Limits) (o : Sane l) (records : List ℕ) (bodies r : RefT (List �
 
     pub shown-low : i < l .pending
     shown-low =
-        omega (arith, shows .within, h .fits .rows .0, length-map (parse l (records, now bodies) .pending) row-of)
+        omega (arith, shows .within, few-pending l (parse l (records, now bodies)) (h .fits))
 
     pub shown-room : at + n ≤ length (now bodies)
     shown-room =

@@ -17,10 +17,11 @@ ghost use Rattle.model.specs.Calls.{find as find-call, optimistic};
 ghost use Rattle.model.specs.Answers.{finding, reply};
 ghost use Rattle.layout.specs.Layout.{of-key};
 ghost use Rattle.layout.specs.Offsets.{Sane};
+ghost use Rattle.layout.specs.Holds.{Held};
 ghost use Rattle.layout.specs.Fit.{fit};
 ghost use Rattle.layout.specs.Act.{act};
 ghost use Rattle.queue.specs.Keys.{keys};
-ghost use Rattle.queue.specs.Place.{Held, Located};
+ghost use Rattle.queue.specs.Place.{Located};
 ghost use Rattle.queue.specs.Shown.{Shown};
 ghost use Rattle.queue.specs.Delivered.{Room, Appended};
 
@@ -142,8 +143,7 @@ pub fn deliver_optimistic(
     if CLIENTS <= client {
         return Reply::Refused(3);
     }
-    // the clients' last numbers are the cells from 1 on, and the number of objects lies behind the readers
-    if sequence as u64 <= cells::get(records, 1 + client as usize) {
+    if sequence as u64 <= cells::get(records, layout::last_at(l, client as usize)) {
         return Reply::Refused(4);
     }
     let place = locate(records, l, client, sequence);
@@ -151,7 +151,7 @@ pub fn deliver_optimistic(
     if place.position < count {
         return Reply::Refused(5);
     }
-    let objects = cells::get(records, 17 + l.readers) as usize;
+    let objects = cells::get(records, layout::size_at(l)) as usize;
     let Decoded::WellFormed(_) = decoder::decode(body, l.operations, objects) else {
         return Reply::Refused(6);
     };

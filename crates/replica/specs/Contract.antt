@@ -1,19 +1,18 @@
 -- What a public call promises, and how it follows from what the inner functions ensure. Assumes nothing.
 use mathlib.Core.Path.{_≡_, refl, sym, ap, _∙_}
-use mathlib.Core.Bool.{Bool, true, false}
+use mathlib.Core.Bool.{true, false}
 use mathlib.Core.List.{List, map}
 use Prim.Native.Nat.{ℕ, zero, suc, _≤_}
 use Rattle.cells.specs.Cells.{Below}
 use Rattle.model.specs.declared.Limits.{Limits}
 use Rattle.model.specs.Calls.{Call, open-reader, read, close-reader, find, Answer, refusal, judged}
-use Rattle.model.specs.Replica.{Pending, Replica, facts, perform, call}
+use Rattle.model.specs.Replica.{Replica, facts, perform, call}
 use Rattle.model.specs.Shape.{Shape}
-use Rattle.model.specs.ShapeCheck.{shaped-says}
 use Rattle.layout.specs.Layout.{Areas, parse, print, body-of}
 use Rattle.layout.specs.Offsets.{Sane}
-use Rattle.layout.specs.Holds.{Holds, HoldsBodies, laid-holds, laid-bodies, holds-print}
+use Rattle.layout.specs.Holds.{Holds, HoldsBodies, holds-print}
 use Rattle.layout.specs.Bodies.{same-bodies}
-use Rattle.layout.specs.Fit.{fit, Fit, fit-says, fit-back}
+use Rattle.layout.specs.Fit.{fit, fit-back, fit-holds, fit-bodies, fit-shape}
 use Rattle.layout.specs.Act.{asked, unfit, act}
 use Rattle.layout.specs.Areas.{act-unfit, act-fit}
 
@@ -45,13 +44,7 @@ pub record Passed (l : Limits) (a : Areas) : Type 0 where
 
 module _ (l : Limits) (s : Sane l) (a : Areas) (x : Below 256 (a .0)) (f : fit l a ≡ true) where
   pub passed : Passed l a
-  passed =
-      let k = fit-says l a f in
-      record {
-        holds = laid-holds l s a x (k .lengths) (k .laid);
-        bodies = laid-bodies l s a x (k .lengths) (k .laid);
-        shape = shaped-says l (parse l a) .0 (k .shaped);
-      }
+  passed = record { holds = fit-holds l s a x f; bodies = fit-bodies l s a x f; shape = fit-shape l a f }
 
   -- the record area b holds the replica after the call, and the call leaves the bodies alone
   pub met-record : (c : Call) (b : List ℕ) (r : Answer) → map body-of (call l (parse l a) c .1 .pending) ≡ map body-of (parse l a .pending)

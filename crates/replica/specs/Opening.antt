@@ -1,6 +1,6 @@
 -- The ways out of an opening, each as the contract asks. Assumes nothing.
-use mathlib.Core.Path.{_≡_, refl, sym, ap, ap₂, _∙_}
-use mathlib.Core.Bool.{Bool, true, false, not, _&&_, _||_}
+use mathlib.Core.Path.{_≡_, sym, ap, _∙_}
+use mathlib.Core.Bool.{Bool, true, false, not, _&&_, _||_, and-false, or-true}
 use mathlib.Core.List.{List}
 use Prim.Native.Nat.{ℕ, _≤_, _<_}
 use lib.IntN.{ℤ}
@@ -9,21 +9,13 @@ use lib.ListN.{length}
 use borrow.Author.Tests.{eq-eqb, ne-eqb, lt-ltb}
 use Rattle.model.specs.declared.Limits.{Limits}
 use Rattle.model.specs.Calls.{opening, Answer, refused, done, causes, refusal}
-use Rattle.model.specs.Replica.{facts, opened}
-use Rattle.layout.specs.Layout.{record-area, body-area, Areas, parse, print, lengths}
+use Rattle.model.specs.Replica.{opened}
+use Rattle.layout.specs.Layout.{record-area, body-area, Areas, print, lengths}
 use Rattle.layout.specs.Offsets.{Sane, record-length, bodies-length}
 use Rattle.layout.specs.Fields.{sizes}
-use Rattle.layout.specs.Act.{act}
 use Rattle.layout.specs.Areas.{act-refused, opening-done, act-open}
+use Rattle.layout.specs.Fit.{right-lengths}
 use Rattle.replica.specs.Contract.{Met, met-unfit}
-
-and-false : (b : Bool) → b && false ≡ false
-and-false true = refl
-and-false false = refl
-
-or-true : (b : Bool) → b || true ≡ true
-or-true true = refl
-or-true false = refl
 
 module _ (l : Limits) (n : ℕ) (vs : List ℤ) (t : ℕ) (a : Areas) where
   pub wrong-record : (length (a .0) ≡ record-length l → ⊥) → Met l (opening n vs t) a (refused 1) a
@@ -39,16 +31,11 @@ module _ (l : Limits) (n : ℕ) (vs : List ℤ) (t : ℕ) (a : Areas) where
       met-unfit l (opening n vs t) a (ap (λ (b : Bool). r && b) e ∙ and-false r)
 
   module _ (e : length (a .0) ≡ record-length l) (f : length (a .1) ≡ bodies-length l) where
-    right : lengths l a ≡ true
-    unfolding lengths
-    right =
-        rw (sizes l .2, sizes l .3, eq-eqb (length (a .0)) (record-length l) e, eq-eqb (length (a .1)) (bodies-length l) f)
-
     -- refusal 2
     turned-back : eqb n 0 || ltb (l .objects) n || not (eqb (length vs) n) ≡ true → Met l (opening n vs t) a (refused 2) a
     unfolding refusal causes
     turned-back q =
-        let k = act-refused l (opening n vs t) a 1 right (rw q) in
+        let k = act-refused l (opening n vs t) a 1 (right-lengths l a e f) (rw q) in
         record { answers = sym (ap (λ (x : Answer × Areas). x .0) k); areas = sym (ap (λ (x : Answer × Areas). x .1) k) }
 
     pub none : n ≡ 0 → Met l (opening n vs t) a (refused 2) a
@@ -63,6 +50,6 @@ module _ (l : Limits) (n : ℕ) (vs : List ℤ) (t : ℕ) (a : Areas) where
     -- accepted: both areas are those of the replica just opened
     pub filled : Sane l → 1 ≤ n → n ≤ l .objects → length vs ≡ n → (b : Areas) → b ≡ print l (opened l vs t) → Met l (opening n vs t) a done b
     filled s some most m b p =
-        let k = opening-done l s n vs t a right some most m in
+        let k = opening-done l s n vs t a (right-lengths l a e f) some most m in
         let o = act-open l s n vs t a k in
         record { answers = sym k; areas = p ∙ sym (ap (λ (x : Answer × Areas). x .1) o) }

@@ -1,11 +1,11 @@
 -- Show body on areas that fail the shape check: the empty part, since Find refuses with 1. Assumes nothing.
-use mathlib.Core.Path.{_≡_, refl, sym, ap, _∙_}
+use mathlib.Core.Path.{_≡_, sym, ap, _∙_}
 use mathlib.Core.Bool.{false}
 use mathlib.Core.List.{List, []}
 use Prim.Native.Nat.{ℕ, _+_}
 use native.Mathlib.Nat.{add-zero}
 use native.Mathlib.Omega.{arith}
-use lib.ListN.{length, take, drop}
+use lib.ListN.{take, drop}
 use denote.Ref.{RefT, now, ptr}
 use Rattle.model.specs.declared.Limits.{Limits}
 use Rattle.model.specs.Calls.{find, show-body, Answer, refused, found, body}

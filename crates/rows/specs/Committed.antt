@@ -15,9 +15,8 @@ use Rattle.execution.specs.Run.{Table, tableOf}
 use Rattle.model.specs.declared.Limits.{Limits}
 use Rattle.model.specs.Serial.{Version, no-version}
 use Rattle.model.specs.Replica.{Replica, newest, table}
-use Rattle.model.specs.ListLaws.{All}
+use Rattle.model.specs.ListLaws.{All, all-in}
 use Rattle.layout.specs.Offsets.{Sane, size-at, object-width, object-at, value-at, record-length}
-use Rattle.layout.specs.Lawful.{all-in}
 use Rattle.layout.specs.Printable.{VersionFits, ObjectFits}
 use Rattle.layout.specs.RowCells.{block-value}
 use Rattle.layout.specs.Holds.{Holds}

@@ -1,4 +1,4 @@
--- Laws of `listed`: its length, equal elements, a list as its elements, a set that stands in two arrays, and a turn of a loop that fills an array.
+-- Laws of `listed`: equal elements, a list as its elements, a set that stands in two arrays, and a turn of a loop that fills an array.
 -- Assumes nothing.
 use mathlib.Core.Path.{_≡_, refl, ap, ap₂, _∙_}
 use mathlib.Core.List.{List, [], _∷_}
@@ -9,19 +9,9 @@ use lib.ListN.{length, getD, set, take}
 use lib.Seq.{getD-set-same, getD-set-other}
 use borrow.Author.Count.{below-more}
 use Rattle.operation.specs.Body.{listed}
+use Rattle.operation.specs.Laws.{length-listed}
 use Rattle.execution.specs.Entries.{Entry, entry}
 use Rattle.execution.specs.Arrays.{entryAt, entries}
-
-pub length-listed : {A : Type 0} (f : ℕ → A) (n : ℕ) → length (listed f n) ≡ n
-unfolding listed
-length-listed f zero = refl
-length-listed f (suc n) = ap suc (length-listed (λ i. f (suc i)) n)
-
-pub getD-listed : {A : Type 0} (f : ℕ → A) (n i : ℕ) (d : A) → i < n → getD (listed f n) i d ≡ f i
-unfolding listed
-getD-listed f zero i d h = absurd (omega arith)
-getD-listed f (suc n) zero d h = refl
-getD-listed f (suc n) (suc i) d h = getD-listed (λ k. f (suc k)) n i d (omega arith)
 
 pub listed-same : {A : Type 0} (f g : ℕ → A) (n : ℕ) → ((k : ℕ) → k < n → f k ≡ g k) → listed f n ≡ listed g n
 unfolding listed

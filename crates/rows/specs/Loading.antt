@@ -14,19 +14,20 @@ use Rattle.cells.specs.Cells.{cells, uncells}
 use Rattle.cells.specs.Laws.{cells-uncells}
 use Rattle.cells.specs.Uncells.{length-uncells}
 use Rattle.operation.specs.Body.{registerCount, listed}
+use Rattle.operation.specs.Laws.{length-listed}
 use Rattle.execution.specs.declared.Counts.{Counts}
 use Rattle.execution.specs.Entries.{Entry, entry}
 use Rattle.execution.specs.Run.{register}
 use Rattle.execution.specs.Arrays.{capacity, entries, Room}
 use Rattle.execution.specs.Places.{room-set}
-use Rattle.model.specs.ListLaws.{All}
+use Rattle.model.specs.ListLaws.{All, all-join, all-in}
 use Rattle.layout.specs.Layout.{Row, row}
 use Rattle.layout.specs.Offsets.{counter-at, outcome-at, register-at, reads-at, entries-at}
-use Rattle.layout.specs.Lawful.{all-below, all-in, all-join}
+use Rattle.layout.specs.Lawful.{all-below}
 use Rattle.layout.specs.Printable.{ValueFits, EntryFits, RowFits, lawful-row}
 use Rattle.layout.specs.RowCells.{row-register, row-reads, row-entries, row-object, row-value}
 use Rattle.rows.specs.RowRun.{entry-in, entries-in, registers-in, run-in, Readable, Loaded}
-use Rattle.rows.specs.Listed.{length-listed, listed-same, listed-of, entries-same, fill-next}
+use Rattle.rows.specs.Listed.{listed-same, listed-of, entries-same, fill-next}
 
 -- ---- the code's stores
 

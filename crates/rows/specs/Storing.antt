@@ -13,6 +13,7 @@ use Rattle.cells.specs.Blocks.{copy-step, copy-done}
 use Rattle.cells.specs.Laws.{uncells-cells}
 use Rattle.cells.specs.Uncells.{uncells-append, uncells-take}
 use Rattle.operation.specs.Body.{registerCount}
+use Rattle.operation.specs.Laws.{getD-listed}
 use Rattle.execution.specs.declared.Counts.{Counts}
 use Rattle.execution.specs.Entries.{Entry}
 use Rattle.execution.specs.Run.{register}
@@ -23,7 +24,7 @@ use Rattle.layout.specs.Layout as layout
 use Rattle.layout.specs.Offsets.{entry-at}
 use Rattle.layout.specs.RowCells.{array-cells}
 use Rattle.rows.specs.RowRun.{registers-set, fronted, entry-cells, Stored}
-use Rattle.rows.specs.Listed.{getD-listed, length-entries}
+use Rattle.rows.specs.Listed.{length-entries}
 
 -- ---- entries and their cells
 

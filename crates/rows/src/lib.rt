@@ -81,7 +81,7 @@ pub fn committed_values(area: &[u8], l: Limits, values: &mut [i64; 128]) -> usiz
     requires { ⌜ Sane l × Laid l (now area) × (length (now values) ≡ 128) ⌝ }
     ensures { λ n. ⌜ Committed l (cells (now (area .entry))) n (now (values .exit)) ⌝ }
 {
-    let n = cells::get(area, 17 + l.readers) as usize;
+    let n = cells::get(area, layout::size_at(l)) as usize;
     let mut i = 0;
     while i < n {
         let at = layout::object_at(l, i) + 2;

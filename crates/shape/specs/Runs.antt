@@ -21,9 +21,9 @@ use Rattle.execution.specs.Run.{Run}
 use Rattle.model.specs.Lists.{all}
 use Rattle.model.specs.Tests.{Says, _and_, says-self, says-le, either}
 use Rattle.model.specs.ShapeCheck.{names-shaped, at-start, run-shaped}
+use Rattle.model.specs.ListLaws.{map-take, map-drop}
 use Rattle.layout.specs.Rows.{chunks}
 use Rattle.layout.specs.RowLaws.{length-chunks}
-use Rattle.layout.specs.Tables.{map-take, map-drop}
 use Rattle.layout.specs.Layout.{entry, row}
 use Rattle.layout.specs.UncheckedRows.{row-ok, dec-counter, dec-outcome, dec-registers, dec-reads, dec-writes}
 use Rattle.row_shape.specs.Scan.{names-in, sets-in, begun-in, run-in}

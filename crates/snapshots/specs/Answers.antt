@@ -14,7 +14,7 @@ use Rattle.layout.specs.Offsets.{Sane}
 use Rattle.layout.specs.Holds.{Holds, with-objects}
 
 -- the area passed the shape check: it holds a shaped replica
-pub record Held (l : Limits) (b : List ℕ) : Type 0 where
+pub record HeldInShape (l : Limits) (b : List ℕ) : Type 0 where
   pub sane : Sane l
   pub replica : Replica
   pub holds : Holds l b replica

@@ -1,5 +1,4 @@
--- Answers: what the contracts say. Areas, Blocks: laws of the lent area that the layout lacks. Readers: each way out of each call.
+-- Answers: what the contracts say. Blocks: the objects as the crate `versions` prunes them. Readers: each way out of each call.
 pub mod Answers
-pub mod Areas
 pub mod Blocks
 pub mod Readers

@@ -22,6 +22,7 @@ use Rattle.layout.specs.Offsets.{Sane, reader-at, object-width, object-at}
 use Rattle.layout.specs.Holds.{Holds, with-readers}
 use Rattle.layout.specs.Reading.{get-timestamp, get-reader}
 use Rattle.layout.specs.Writing.{put-reader}
+use Rattle.layout.specs.Printable.{ReaderFits}
 use Rattle.versions.specs.Block.{held-in}
 use Rattle.snapshots.specs.Answers.{Answered, Falling, Pruned}
 use Rattle.snapshots.specs.Blocks.{lent-object}
@@ -90,13 +91,17 @@ module _ (l : Limits) (s : Sane l) (b : List ℕ) (u : Replica) (h : Holds l b u
     pub close-no-reader : Answered l (close-reader r) u b (refused 10)
     close-no-reader = turned-back l (close-reader r) u b 9 (close-refusal l u r ∙ rw (le-leb (l .readers) r high)) h
 
-  module _ (low : r < l .readers) where
-    was : getD (cells b) (reader-at r) 0 ≡ of-reader (getD (u .readers) r none)
-    was = get-reader l s b u h r low
+  -- its cell, in the code's numbers
+  module _ (low : r < l .readers) (at : ℕ) (ea : at ≡ reader-at r) where
+    was : getD (cells b) at 0 ≡ of-reader (getD (u .readers) r none)
+    was = ap (λ (i : ℕ). getD (cells b) i 0) ea ∙ get-reader l s b u h r low
+
+    pub put-cell : (x : Option ℕ) → ReaderFits x → (v : ℕ) → v ≡ of-reader x → (b₁ : List ℕ) → Put b b₁ at v → Holds l b₁ (with-readers (set (u .readers) r x) u)
+    put-cell x g v e b₁ w = put-reader l s b u h r low x g b₁ (subst (Put b b₁ (reader-at r)) e (subst (λ (i : ℕ). Put b b₁ i v) ea w))
 
     -- ---- the reader is open
 
-    module _ (x : ℕ) (e : x ≡ getD (cells b) (reader-at r) 0) (p : 0 < x) where
+    module _ (x : ℕ) (e : x ≡ getD (cells b) at 0) (p : 0 < x) where
       opened : is-open l u r ≡ true
       unfolding is-open
       opened = open-cell (getD (u .readers) r none) (omega (arith, was))
@@ -121,15 +126,15 @@ module _ (l : Limits) (s : Sane l) (b : List ℕ) (u : Replica) (h : Holds l b u
           (ap value (ev ∙ ap (λ (w : Version). w .value) same)) h
 
       -- b₁: the reader's cell is 0; b₂: what no other reader holds is gone
-      pub close-done : Shape l u → (b₁ b₂ : List ℕ) → Put b b₁ (reader-at r) 0 → Pruned l b₁ b₂ → Answered l (close-reader r) u b₂ done
+      pub close-done : Shape l u → (b₁ b₂ : List ℕ) → Put b b₁ at 0 → Pruned l b₁ b₂ → Answered l (close-reader r) u b₂ done
       unfolding perform
       close-done g b₁ b₂ w q =
           done-by l (close-reader r) u b₂ (close-refusal l u r ∙ rw (lt-leb (l .readers) r low, opened)) done refl
-          (q (with-readers (set (u .readers) r none) u) (put-reader l s b u h r low none (omega arith) b₁ w) (all-falling l u g))
+          (q (with-readers (set (u .readers) r none) u) (put-cell none (omega arith) 0 refl b₁ w) (all-falling l u g))
 
     -- ---- the reader is closed
 
-    module _ (x : ℕ) (e : x ≡ getD (cells b) (reader-at r) 0) (p : x ≡ 0) where
+    module _ (x : ℕ) (e : x ≡ getD (cells b) at 0) (p : x ≡ 0) where
       closed : is-open l u r ≡ false
       unfolding is-open
       closed = closed-cell (getD (u .readers) r none) (omega (arith, was))
@@ -143,9 +148,9 @@ module _ (l : Limits) (s : Sane l) (b : List ℕ) (u : Replica) (h : Holds l b u
           turned-back l (close-reader r) u b 11 (close-refusal l u r ∙ rw (lt-leb (l .readers) r low, closed)) h
 
       -- the reader's cell takes the timestamp and one
-      pub open-done : Shape l u → (t : ℕ) → t ≡ getD (cells b) 0 0 → (b₁ : List ℕ) → Put b b₁ (reader-at r) (t + 1) → Answered l (open-reader r) u b₁ done
+      pub open-done : Shape l u → (t : ℕ) → t ≡ getD (cells b) 0 0 → (b₁ : List ℕ) → Put b b₁ at (t + 1) → Answered l (open-reader r) u b₁ done
       unfolding perform lastTimestamp
       open-done g t et b₁ w =
           let f : t + 1 ≡ suc (u .timestamp) = omega (arith, et, get-timestamp l s b u h) in
           done-by l (open-reader r) u b₁ (open-refusal l u r ∙ rw (lt-leb (l .readers) r low, closed)) done refl
-          (put-reader l s b u h r low (some (u .timestamp)) (omega (arith, g .encoded .timestamp)) b₁ (subst (Put b b₁ (reader-at r)) f w))
+          (put-cell (some (u .timestamp)) (omega (arith, g .encoded .timestamp)) (t + 1) f b₁ w)

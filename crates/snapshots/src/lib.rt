@@ -5,38 +5,39 @@ use model::Reading;
 use model::Reply;
 ghost use Rattle.model.specs.Answers.{reply, reading};
 ghost use Rattle.model.specs.Calls.{open-reader, read as read-call, close-reader};
-ghost use Rattle.snapshots.specs.Answers.{Held, Called, Prunable, Pruned, Few};
+ghost use Rattle.snapshots.specs.Answers.{HeldInShape, Called, Prunable, Pruned, Few};
 
 pub fn open_reader(records: &mut [u8], l: Limits, reader: u32) -> Reply
-    requires { ⌜ Held l (now records) ⌝ }
+    requires { ⌜ HeldInShape l (now records) ⌝ }
     ensures { λ r. ⌜ Called l (open-reader reader) (now (records .entry)) (now (records .exit)) (reply r) ⌝ }
 {
     let r = reader as usize;
     if l.readers <= r {
         return Reply::Refused(10);
     }
-    if 0 < cells::get(records, 17 + r) {
+    let at = layout::reader_at(l, r);
+    if 0 < cells::get(records, at) {
         return Reply::Refused(11);
     }
     let timestamp = cells::get(records, 0);
-    cells::put(records, 17 + r, timestamp + 1);
+    cells::put(records, at, timestamp + 1);
     Reply::Done
 }
 
 pub fn read(records: &[u8], l: Limits, reader: u32, object: u32) -> Reading
-    requires { ⌜ Held l (now records) ⌝ }
+    requires { ⌜ HeldInShape l (now records) ⌝ }
     ensures { λ r. ⌜ Called l (read-call reader object) (now (records .entry)) (now (records .entry)) (reading r) ⌝ }
 {
     let r = reader as usize;
     if l.readers <= r {
         return Reading::Refused(10);
     }
-    let cell = cells::get(records, 17 + r);
+    let cell = cells::get(records, layout::reader_at(l, r));
     if cell == 0 {
         return Reading::Refused(12);
     }
     let o = object as usize;
-    if cells::get(records, 17 + l.readers) as usize <= o {
+    if cells::get(records, layout::size_at(l)) as usize <= o {
         return Reading::Refused(13);
     }
     let first = layout::object_at(l, o) * 8;
@@ -50,16 +51,18 @@ fn prune(records: &mut [u8], l: Limits, snapshots: &mut [u8])
     requires { ⌜ Prunable l (now records) (now snapshots) ⌝ }
     ensures { λ _. ⌜ Pruned l (now (records .entry)) (now (records .exit)) ⌝ }
 {
-    let readers = l.readers;
-    bytes::copy(&records[136..136 + readers * 8], snapshots);
-    let n = cells::get(records, 17 + readers) as usize;
+    let readers = layout::reader_at(l, 0) * 8;
+    let size = layout::size_at(l);
+    let last = size * 8;
+    bytes::copy(&records[readers..last], snapshots);
+    let n = cells::get(records, size) as usize;
     let first = layout::object_at(l, 0) * 8;
     let end = layout::object_at(l, n) * 8;
-    pruning::prune_objects(&mut records[first..end], snapshots, readers, n);
+    pruning::prune_objects(&mut records[first..end], snapshots, l.readers, n);
 }
 
 pub fn close_reader(records: &mut [u8], l: Limits, reader: u32) -> Reply
-    requires { ⌜ Held l (now records) ⌝ }
+    requires { ⌜ HeldInShape l (now records) ⌝ }
     requires { ⌜ Few l ⌝ }
     ensures { λ r. ⌜ Called l (close-reader reader) (now (records .entry)) (now (records .exit)) (reply r) ⌝ }
 {
@@ -67,10 +70,11 @@ pub fn close_reader(records: &mut [u8], l: Limits, reader: u32) -> Reply
     if l.readers <= r {
         return Reply::Refused(10);
     }
-    if cells::get(records, 17 + r) == 0 {
+    let at = layout::reader_at(l, r);
+    if cells::get(records, at) == 0 {
         return Reply::Refused(12);
     }
-    cells::put(records, 17 + r, 0);
+    cells::put(records, at, 0);
     // room for the cells of 64 readers: `Few` asks that there are no more
     let mut snapshots = [0u8; 512];
     let end = l.readers * 8;

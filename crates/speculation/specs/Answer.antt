@@ -2,7 +2,7 @@
 use mathlib.Core.Path.{_≡_, refl, sym, ap, ap₂, _∙_}
 use mathlib.Core.Bool.{Bool, true, false, cond}
 use mathlib.Core.List.{List, [], _∷_, map}
-use Prim.Native.Nat.{ℕ, suc, _+_, _-_, _≤_, _<_}
+use Prim.Native.Nat.{ℕ, _+_, _-_, _≤_, _<_}
 use native.Mathlib.Omega.{arith}
 use lib.IntN.{ℤ}
 use lib.ListN.{length, take, length-map}
@@ -15,21 +15,21 @@ use Rattle.model.specs.Lists.{count}
 use Rattle.model.specs.Calls.{Transaction, execute, executed, refused, refusal, causes, mostWork}
 use Rattle.model.specs.Serial.{Version}
 use Rattle.model.specs.Replica.{Pending, Replica, opens, newest, table, program, finished, advance, used, work-count, perform}
-use Rattle.model.specs.ListLaws.{All, all-implies}
+use Rattle.model.specs.ListLaws.{All, all-implies, count-few}
 use Rattle.model.specs.EarlyResults.{sents, worked-sents}
 use Rattle.model.specs.Shape.{VersionsShape, Shape}
 use Rattle.model.specs.ShapeParts.{same-length}
 use Rattle.layout.specs.Layout.{body-of, parse, print}
 use Rattle.layout.specs.Offsets.{Sane}
-use Rattle.layout.specs.Holds.{Holds, HoldsBodies, holds-print}
+use Rattle.layout.specs.Holds.{Holds, HoldsBodies, holds-print, holds-long}
 use Rattle.layout.specs.Reading.{get-size}
 use Rattle.layout.specs.Bodies.{same-bodies}
-use Rattle.layout.specs.Fit.{fit, shape-fits}
+use Rattle.layout.specs.Fit.{fit, shape-fits, fit-holds, fit-bodies, fit-shape}
 use Rattle.layout.specs.Act.{act}
-use Rattle.layout.specs.Areas.{act-refused}
+use Rattle.layout.specs.Areas.{act-refused, act-accepted}
 use Rattle.rows.specs.Committed.{Laid, Committed, committed-back, committed-table}
 use Rattle.speculation.specs.Passing.{counted-most, all-worked, after-work, Worked, accepted, new-shape}
-use Rattle.speculation.specs.Lent.{Begun, fit-shape, area-length, fit-holds, fit-bodies}
+use Rattle.speculation.specs.Lent.{Begun}
 
 -- what `execute` asks
 pub record Asked (l : Limits) (area bodies : List ℕ) : Type 0 where
@@ -53,15 +53,6 @@ count-most T c (j ∷ js) =
     go′ : (b : Bool) → work-count (over (advance T c j .run .writes) T) (c - used T c j) js ≤ c - used T c j → used T c j + cond b (work-count (over (advance T c j .run .writes) T) (c - used T c j) js) 0 ≤ c
     go′ true h = omega (arith, used-most T c j)
     go′ false h = omega (arith, used-most T c j)
-
--- no more finished than there are
-finished-most : (js : List Pending) → count finished js ≤ length js
-finished-most [] = omega arith
-finished-most (j ∷ js) = go′ (finished j) (finished-most js)
-  where
-    go′ : (b : Bool) → count finished js ≤ length js → cond b (suc (count finished js)) (count finished js) ≤ suc (length js)
-    go′ true h = omega arith
-    go′ false h = omega arith
 
 -- ---- work changes no body
 
@@ -88,13 +79,13 @@ module _ (l : Limits) (area bodies : List ℕ) (k : Asked l area bodies) (b : Be
   s = k .sane
 
   shape : Shape l u
-  shape = fit-shape l s area bodies (k .fit)
+  shape = fit-shape l (area, bodies) (k .fit)
 
   holds : Holds l area u
-  holds = fit-holds l s area bodies (k .fit) b
+  holds = fit-holds l s (area, bodies) b (k .fit)
 
   pub readable : Laid l area
-  readable = record { whole = area-length l s area bodies (k .fit); few = omega (arith, get-size l s area u holds, shape .few-objects); room = k .objects }
+  readable = record { whole = holds-long l s area u holds; few = omega (arith, get-size l s area u holds, shape .few-objects); room = k .objects }
 
   -- the committed state, as the local array has it, is the first table
   module _ (n : ℕ) (vs : List ℤ) (v : Committed l (cells area) n vs) (c : ℕ) (low : c ≤ mostWork) where
@@ -120,16 +111,16 @@ module _ (l : Limits) (area bodies : List ℕ) (k : Asked l area bodies) (b : Be
     small-counts =
         let most = shape .few-pending in
         let p = s .pending in
-        (omega (arith, w .operations, count-most (table (u .objects)) c (u .pending)), omega (arith, w .finished, finished-most (all-worked u c), same-length (all-worked u c) (u .pending) (worked-sents (table (u .objects)) c (u .pending))))
+        (omega (arith, w .operations, count-most (table (u .objects)) c (u .pending)), omega (arith, w .finished, count-few finished (all-worked u c), same-length (all-worked u c) (u .pending) (worked-sents (table (u .objects)) c (u .pending))))
 
     new-bodies : HoldsBodies l bodies (after-work u c)
     new-bodies =
-        same-bodies l s bodies u (fit-bodies l s area bodies (k .fit) b) (after-work u c) (shape-fits l s (after-work u c) (new-shape l s (k .few) u shape c low))
+        same-bodies l s bodies u (fit-bodies l s (area, bodies) b (k .fit)) (after-work u c) (shape-fits l s (after-work u c) (new-shape l s (k .few) u shape c low))
         (same-bytes (all-worked u c) (u .pending) (worked-sents (table (u .objects)) c (u .pending)))
 
     acted : act l (execute c) (area, bodies) ≡ (executed (work-count (table (u .objects)) c (u .pending)) (count finished (all-worked u c)), print l (after-work u c))
-    unfolding act perform
-    acted = rw (k .fit, accepted l s (k .few) u shape c low)
+    unfolding perform
+    acted = act-accepted l (execute c) (area, bodies) (k .fit) (accepted l s (k .few) u shape c low)
 
     pub answered : (executed n f ≡ act l (execute c) (area, bodies) .0) × ((ys, bodies) ≡ act l (execute c) (area, bodies) .1)
     answered = (

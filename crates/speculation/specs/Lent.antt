@@ -8,29 +8,24 @@ use native.Mathlib.Nat.{mul-le-mul-right, suc-mul}
 use lib.IntN.{ℤ}
 use lib.ListN.{length, getD}
 use borrow.Rule.Slice.PartMut.{midOf, putMid}
-use lib.Dec.{eqb}
-use borrow.Author.Tests.{eqb-true}
 use Rattle.cells.specs.Cells.{cells, uncells, Below}
 use Rattle.operation.specs.Body.{size, wellFormed}
 use Rattle.operation.specs.Laws.{formed}
-use Rattle.execution.specs.Agreement.{both}
 use Rattle.execution.specs.Run.{tableOf}
 use Rattle.execution.specs.Arrays.{capacity}
 use Rattle.model.specs.declared.Limits.{Limits}
 use Rattle.model.specs.Calls.{Transaction, mostWork}
 use Rattle.model.specs.Replica.{Pending, Replica, table}
-use Rattle.model.specs.ListLaws.{all-map}
+use Rattle.model.specs.ListLaws.{all-map, all-in}
 use Rattle.model.specs.Shape.{Shape}
-use Rattle.model.specs.ShapeCheck.{shaped-says}
-use Rattle.layout.specs.Layout.{row, record-area, body-area, row-of, body-of, parse, lengths}
-use Rattle.layout.specs.Offsets.{Sane, pending-at, row-width, row-at, record-length, body-width, body-at, bodies-length}
-use Rattle.layout.specs.OffsetLaws.{row-span}
-use Rattle.layout.specs.Lawful.{all-in}
-use Rattle.layout.specs.Fields.{sizes}
-use Rattle.layout.specs.Holds.{Holds, HoldsBodies, laid-holds, laid-bodies}
+use Rattle.layout.specs.Layout.{row, row-of, body-of, parse}
+use Rattle.layout.specs.Offsets.{Sane, pending-at, row-width, row-at, body-width, body-at}
+use Rattle.layout.specs.OffsetLaws.{one-row-span}
+use Rattle.layout.specs.Holds.{HoldsBodies, bodies-long}
 use Rattle.layout.specs.Reading.{get-pending}
 use Rattle.layout.specs.Bodies.{body-part, body-size, body-span}
-use Rattle.layout.specs.Fit.{fit, Fit, fit-says}
+use Rattle.layout.specs.Fit.{fit, fit-holds, fit-bodies, fit-shape}
+use Rattle.layout.specs.Printable.{few-pending}
 use Rattle.speculation.specs.declared.Advanced.{Advanced}
 use Rattle.speculation.specs.Advance.{Ready, Leaves}
 use Rattle.speculation.specs.Passing.{nobody, Going, Worked, going-first, going-last, lent-row, turn-ready, turn-most, turn-next, turn-last}
@@ -48,37 +43,16 @@ module _ (l : Limits) (s : Sane l) (area bodies : List ℕ) (f : fit l (area, bo
   abbrev u : Replica
   u = parse l (area, bodies)
 
-  known : Fit l (area, bodies)
-  known = fit-says l (area, bodies) f
-
-  pub fit-shape : Shape l u
-  fit-shape = shaped-says l u .0 (known .shaped)
-
-  lengths-are : (length area ≡ record-length l) × (length bodies ≡ bodies-length l)
-  unfolding lengths
-  lengths-are =
-      let n = both (eqb (length area) (record-area l .size)) (eqb (length bodies) (body-area l 0 .size)) (known .lengths) in
-      (eqb-true (length area) (record-area l .size) (n .0) ∙ sizes l .2, eqb-true (length bodies) (body-area l 0 .size) (n .1) ∙ sizes l .3)
-
-  pub area-length : length area ≡ record-length l
-  area-length = lengths-are .0
-
   module _ (b : Below 256 area) where
-    pub fit-holds : Holds l area u
-    fit-holds = laid-holds l s (area, bodies) b (known .lengths) (known .laid)
-
-    pub fit-bodies : HoldsBodies l bodies u
-    fit-bodies = laid-bodies l s (area, bodies) b (known .lengths) (known .laid)
+    bodies-held : HoldsBodies l bodies u
+    bodies-held = fit-bodies l s (area, bodies) b f
 
     pub pending-there : getD (cells area) (pending-at l) 0 ≡ length (u .pending)
-    pending-there = get-pending l s area u fit-holds
-
-    few-pending : length (u .pending) ≤ l .pending
-    few-pending = fit-shape .few-pending
+    pending-there = get-pending l s area u (fit-holds l s (area, bodies) b f)
 
     module _ (i : ℕ) (h : i < length (u .pending)) where
       pub low-place : i < l .pending
-      low-place = omega (arith, few-pending)
+      low-place = omega (arith, few-pending l u (bodies-held .fits))
 
       abbrev j : Pending
       j = getD (u .pending) i nobody
@@ -86,26 +60,19 @@ module _ (l : Limits) (s : Sane l) (area bodies : List ℕ) (f : fit l (area, bo
       -- a body lies in its place
       pub body-inside : (body-at l i < length bodies) × (body-at l i + 1 + 11 * getD bodies (body-at l i) 0 ≤ length bodies)
       body-inside =
-          let n = body-size l s bodies u fit-bodies i h nobody in
+          let n = body-size l s bodies u bodies-held i h nobody in
           let w : getD bodies (body-at l i) 0 ≤ l .operations = omega (arith, n, small) in
           let p = mul-le-mul-right (body-width l) low-place in
           let q = suc-mul i (body-width l) in
-          (omega (arith, lengths-are .1), omega (arith, lengths-are .1))
+          (omega (arith, bodies-long l s bodies u bodies-held), omega (arith, bodies-long l s bodies u bodies-held))
         where
           small : size (body-of j) ≤ l .operations
-          small = formed (l .operations) (length (u .objects)) (body-of j) (all-in (λ (x : Pending). wellFormed (l .operations) (length (u .objects)) (body-of x) ≡ true) (u .pending) i nobody (all-map (λ (x : Transaction). wellFormed (l .operations) (length (u .objects)) (x .bytes) ≡ true) (λ (x : Pending). x .sent) (u .pending) (fit-shape .bodies)) h) .most
+          small = formed (l .operations) (length (u .objects)) (body-of j) (all-in (λ (x : Pending). wellFormed (l .operations) (length (u .objects)) (body-of x) ≡ true) (u .pending) i nobody (all-map (λ (x : Transaction). wellFormed (l .operations) (length (u .objects)) (x .bytes) ≡ true) (λ (x : Pending). x .sent) (u .pending) (fit-shape l (area, bodies) f .bodies)) h) .most
 
       pub lent-body : (n : ℕ) → n ≡ getD bodies (body-at l i) 0 → midOf (body-at l i) (body-at l i + 1 + 11 * n - body-at l i) bodies ≡ body-of j
       lent-body n e =
-          let z : body-at l i + 1 + 11 * n - body-at l i ≡ length (body-of j) = omega (arith, e, body-size l s bodies u fit-bodies i h nobody, body-span l s bodies u fit-bodies i h nobody) in
-          ap (λ (k : ℕ). midOf (body-at l i) k bodies) z ∙ body-part l s bodies u fit-bodies i h nobody
-
--- the bytes of one row
-row-part-length : (l : Limits) (i : ℕ) → row-at l (i + 1) * 8 - row-at l i * 8 ≡ row-width l * 8
-row-part-length l i = row-span l i (i + 1) (omega arith) ∙ ap (λ (n : ℕ). n * (row-width l * 8)) one ∙ omega arith
-  where
-    one : i + 1 - i ≡ 1
-    one = omega arith
+          let z : body-at l i + 1 + 11 * n - body-at l i ≡ length (body-of j) = omega (arith, e, body-size l s bodies u bodies-held i h nobody, body-span l s bodies u bodies-held i h nobody) in
+          ap (λ (k : ℕ). midOf (body-at l i) k bodies) z ∙ body-part l s bodies u bodies-held i h nobody
 
 -- ---- the loop, by the code's own offsets
 
@@ -114,11 +81,11 @@ module _ (l : Limits) (area bodies : List ℕ) (vs : List ℤ) (budget : ℕ) (g
   u₀ = parse l (area, bodies)
 
   shape : Shape l u₀
-  shape = fit-shape l (g .sane) area bodies (g .fit)
+  shape = fit-shape l (area, bodies) (g .fit)
 
   pub begun-first : Going l u₀ budget area vs 0 budget
   begun-first =
-      going-first l (g .sane) (g .few) u₀ shape budget (g .allowed) area vs (fit-holds l (g .sane) area bodies (g .fit) b) (g .table) (g .size)
+      going-first l (g .sane) (g .few) u₀ shape budget (g .allowed) area vs (fit-holds l (g .sane) (area, bodies) b (g .fit)) (g .table) (g .size)
 
   module _ (here : List ℕ) (ts : List ℤ) (i left : ℕ) (k : Going l u₀ budget here ts i left) where
     pub begun-last : length (u₀ .pending) ≤ i → Worked l u₀ budget here (budget - left) i
@@ -132,7 +99,7 @@ module _ (l : Limits) (area bodies : List ℕ) (vs : List ℤ) (budget : ℕ) (g
       body-bytes = midOf at (at + 1 + 11 * getD bodies at 0 - at) bodies
 
       width : e * 8 - r * 8 ≡ row-width l * 8
-      width = ap₂ (λ (x y : ℕ). x * 8 - y * 8) ee er ∙ row-part-length l i
+      width = one-row-span l i r e er ee
 
       is-row : row-bytes ≡ uncells (row (l .operations) .enc (row-of (getD (u₀ .pending) i nobody)))
       is-row =

@@ -8,7 +8,7 @@ use Prim.Native.Nat.{ℕ, zero, suc, _+_, _-_, _*_, _^_, _≤_, _<_}
 use native.Mathlib.Omega.{arith}
 use native.Mathlib.Numerals.{add-one}
 use lib.IntN.{ℤ}
-use lib.ListN.{length, take, drop, getD, set}
+use lib.ListN.{length, take, drop, getD, set, drop-of-length-le}
 use lib.Seq.{take-suc, drop-cons, take-all}
 use borrow.Rule.Slice.PartMut.{midOf, putMid}
 use borrow.Author.Tests.{le-ltb, lt-leb}
@@ -23,7 +23,7 @@ use Rattle.model.specs.declared.Limits.{Limits}
 use Rattle.model.specs.Lists.{count}
 use Rattle.model.specs.Calls.{Transaction, execute, refusal, causes, mostWork}
 use Rattle.model.specs.Replica.{Pending, Replica, table, program, finished, advance, used, worked, work-count, pending-of, facts, perform, call}
-use Rattle.model.specs.ListLaws.{all-map}
+use Rattle.model.specs.ListLaws.{all-map, all-drop, all-in, count-join}
 use Rattle.model.specs.EarlyResults.{NotBegun, Ordered, worked-sents}
 use Rattle.model.specs.Shape.{size-of, Shape}
 use Rattle.model.specs.ShapeRuns.{finished-numbers, NonEmpty}
@@ -32,7 +32,6 @@ use Rattle.model.specs.ShapeParts.{pending-part, same-length}
 use Rattle.model.specs.ShapeKept.{call-shape}
 use Rattle.layout.specs.Layout.{row, row-of, body-of}
 use Rattle.layout.specs.Offsets.{Sane, row-width, row-at}
-use Rattle.layout.specs.Lawful.{all-in, all-drop}
 use Rattle.layout.specs.Printable.{RowFits, BodyFits}
 use Rattle.layout.specs.Holds.{Holds, with-pending}
 use Rattle.layout.specs.Reading.{row-part}
@@ -73,21 +72,7 @@ place-all [] (y ∷ old) (suc i) n e = absurd (omega arith)
 place-all (x ∷ new) [] (suc i) n e = absurd (omega arith)
 place-all (x ∷ new) (y ∷ old) (suc i) n e = ap (x ∷_) (place-all new old i (omega arith) e)
 
-nothing-left : {A : Type 0} (xs : List A) (i : ℕ) → length xs ≤ i → drop i xs ≡ []
-nothing-left [] zero h = refl
-nothing-left [] (suc i) h = refl
-nothing-left (x ∷ xs) zero h = absurd (omega arith)
-nothing-left (x ∷ xs) (suc i) h = nothing-left xs i (omega arith)
-
 -- ---- how many are finished
-
-count-join : {A : Type 0} (q : A → Bool) (xs ys : List A) → count q (xs ++ ys) ≡ count q xs + count q ys
-count-join q [] ys = omega arith
-count-join q (x ∷ xs) ys = go′ (q x) (count-join q xs ys)
-  where
-    go′ : (b : Bool) → count q (xs ++ ys) ≡ count q xs + count q ys → cond b (suc (count q (xs ++ ys))) (count q (xs ++ ys)) ≡ cond b (suc (count q xs)) (count q xs) + count q ys
-    go′ true h = omega arith
-    go′ false h = h
 
 -- a transaction not begun is not finished: its body has an operation
 not-finished : (j : Pending) → j .run ≡ start → 1 ≤ size-of j → finished j ≡ false
@@ -204,8 +189,8 @@ module _ (l : Limits) (s : Sane l) (few : l .operations ≤ capacity) (u : Repli
   pub going-last : (area : List ℕ) (vs : List ℤ) (i left : ℕ) → Going l u c area vs i left → length js ≤ i → Worked l u c area (c - left) i
   unfolding work-count
   going-last area vs i left g h =
-      let a = nothing-left js i h in
-      let b = nothing-left W i (omega (arith, same)) in
+      let a = drop-of-length-le js {i = i} h in
+      let b = drop-of-length-le W {i = i} (omega (arith, same)) in
       let z = ap (work-count (tableOf vs) left) a in
       let t : take i W ≡ W = take-all i W (omega (arith, same)) in
       record {

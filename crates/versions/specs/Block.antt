@@ -11,6 +11,7 @@ use lib.ListN.{length, getD, take, drop, set, replicate}
 use mir.Syntax.{w64}
 use mir.Val.{SFits, toZ, ofZ}
 use Rattle.cells.specs.Cells.{cells}
+unfoldable pub use Rattle.cells.specs.Rows.{chunks}
 use Rattle.cells.specs.Zeros.{zeros}
 use Rattle.model.specs.Lists.{any, all}
 use Rattle.model.specs.Serial.{Version}
@@ -43,11 +44,6 @@ reader-of (suc r) = some r
 -- the open readers' stamps
 unfoldable pub stamps : List ℕ → List ℕ
 stamps rc = opens (map reader-of rc)
-
--- m blocks of w cells, one after another
-abbrev pub chunks : ℕ → ℕ → List ℕ → List (List ℕ)
-chunks w zero cs = []
-chunks w (suc m) cs = take w cs ∷ chunks w m (drop w cs)
 
 -- m objects' versions
 unfoldable pub objects-in : ℕ → ℕ → List ℕ → List (List Version)

@@ -17,7 +17,7 @@ use Rattle.cells.specs.Laws.{cells-next, cells-end, cells-rest, cells-take, cel
 use Rattle.cells.specs.Zeros.{zeros}
 use Rattle.model.specs.Replica.{newest, as-of}
 use Rattle.model.specs.ShapeCheck.{versions-shaped}
-use Rattle.versions.specs.Block.{width, version-of, versions-in, held-in, stamps, framed, block-ok, blocks-ok, between, lower, lowest, chain}
+use Rattle.versions.specs.Block.{width, version-of, versions-in, held-in, stamps, chunks, framed, block-ok, blocks-ok, between, lower, lowest, chain}
 use Rattle.versions.specs.OnePass.{versions-chain, lowest-below}
 
 -- ---- some_between
@@ -176,7 +176,7 @@ module _ (n timestamp : ℕ) (rc : List ℕ) (xs : List ℕ) (ex : length xs ≡
 
 module _ (n timestamp : ℕ) (rc : List ℕ) (m at : ℕ) (xs : List ℕ) (h : 0 < m) (k : ℕ) (e : k ≡ width n * 8) (t : Bool) (g : t ≡ block-ok n timestamp rc (cells (take k (drop at xs)))) where
   split : blocks-ok n timestamp rc m (cells (drop at xs)) ≡ t && blocks-ok n timestamp rc (m - 1) (cells (drop (at + width n * 8) xs))
-  unfolding blocks-ok
+  unfolding blocks-ok chunks
   split = rw (← drop-drop (width n * 8) at xs, g, e) (go′ m h (drop at xs))
     where
       go′ : (m : ℕ) → 0 < m → (ys : List ℕ) → blocks-ok n timestamp rc m (cells ys) ≡ block-ok n timestamp rc (cells (take (width n * 8) ys)) && blocks-ok n timestamp rc (m - 1) (cells (drop (width n * 8) ys))
@@ -190,7 +190,7 @@ module _ (n timestamp : ℕ) (rc : List ℕ) (m at : ℕ) (xs : List ℕ) (h : 0
   blocks-next a = split ∙ rw a
 
 pub blocks-end : (n timestamp : ℕ) (rc : List ℕ) (m : ℕ) (cs : List ℕ) → m ≤ 0 → blocks-ok n timestamp rc m cs ≡ true
-unfolding blocks-ok
+unfolding blocks-ok chunks
 blocks-end n timestamp rc zero cs h = refl
 blocks-end n timestamp rc (suc m) cs h = absurd (omega arith)
 

@@ -60,7 +60,7 @@ Fitting n vs = Small vs × (length vs ≤ suc n)
 
 module _ (n : ℕ) where
   pub objects-laid : (objs : List (List Version)) → All (Fitting n) objs → objects-in n (length objs) (laid n objs) ≡ objs
-  unfolding objects-in laid
+  unfolding objects-in laid chunks
   objects-laid [] h = refl
   objects-laid (vs ∷ objs) h =
       let l : length (block n vs) ≡ width n = length-block n vs (h .0 .1) in
@@ -69,7 +69,7 @@ module _ (n : ℕ) where
       (ap (λ (cs : List ℕ). map held-in (chunks (width n) (length objs) cs)) (drop-at (block n vs) (laid n objs) (width n) l) ∙ objects-laid objs (h .1))
 
   framed-laid : (objs : List (List Version)) → All (Fitting n) objs → all (framed n) (chunks (width n) (length objs) (laid n objs)) ≡ true
-  unfolding laid
+  unfolding laid chunks
   framed-laid [] h = refl
   framed-laid (vs ∷ objs) h =
       let l : length (block n vs) ≡ width n = length-block n vs (h .0 .1) in
@@ -87,7 +87,7 @@ module _ (n : ℕ) where
       rw length-append (omega (arith, length-block n vs (h .0 .1), length-laid objs (h .1)))
 
   pub laid-objects : (m : ℕ) (cs : List ℕ) → length cs ≡ m * width n → Below (2 ^ 64) cs → all (framed n) (chunks (width n) m cs) ≡ true → laid n (objects-in n m cs) ≡ cs
-  unfolding objects-in laid
+  unfolding objects-in laid chunks
   laid-objects zero [] l b f = refl
   laid-objects zero (c ∷ cs) l b f = absurd (omega arith)
   laid-objects (suc m) cs l b f =
@@ -111,13 +111,14 @@ pub record Pruning (n : ℕ) (rc xs ys : List ℕ) (at left : ℕ) (target : Lis
 
 pruned-step : (n : ℕ) (rc : List ℕ) (m : ℕ) (xs : List ℕ) → 0 < m
     → pruned n rc m xs ≡ uncells (block n (prune (stamps rc) (held-in (cells (take (width n * 8) xs))))) ++ pruned n rc (m - 1) (drop (width n * 8) xs)
-unfolding objects-in laid
+unfolding objects-in laid chunks
 pruned-step n rc zero xs h = absurd (omega arith)
 pruned-step n rc (suc m) xs h =
     let b : suc m - 1 ≡ m = omega arith in
     rw (b, cells-take (width n) xs, cells-drop (width n) xs) (uncells-append (block n (prune (stamps rc) (held-in (take (width n) (cells xs))))) (laid n (map (prune (stamps rc)) (map held-in (chunks (width n) m (drop (width n) (cells xs)))))))
 
 ordered-step : (n m : ℕ) (xs : List ℕ) → 0 < m → All (Ordered n) (chunks (width n) m (cells xs)) → Ordered n (cells (take (width n * 8) xs)) × All (Ordered n) (chunks (width n) (m - 1) (cells (drop (width n * 8) xs)))
+unfolding chunks
 ordered-step n zero xs h o = absurd (omega arith)
 ordered-step n (suc m) xs h o = let b : suc m - 1 ≡ m = omega arith in rw (b, cells-take (width n) xs, cells-drop (width n) xs) o
 
@@ -147,6 +148,6 @@ module _ (n : ℕ) (rc xs ys : List ℕ) (at left : ℕ) (target : List ℕ) (p 
         }
 
 pub pruning-end : (n : ℕ) (rc xs ys : List ℕ) (at left : ℕ) (target : List ℕ) → Pruning n rc xs ys at left target → left ≤ 0 → length ys ≤ at → ys ≡ target
-unfolding objects-in laid
+unfolding objects-in laid chunks
 pruning-end n rc xs ys at zero target p z l = sym (take-all at ys l) ∙ sym (append-nil (take at ys)) ∙ p .done
 pruning-end n rc xs ys at (suc left) target p z l = absurd (omega arith)

@@ -1,6 +1,5 @@
 -- `commit::clear_from` meets its contract: both tails are filled with 0, and the count says how many stay.
 use mathlib.Core.Path.{refl}
-use Prim.Native.Nat.{_-_}
 use native.Mathlib.Omega.{arith}
 use borrow.Author.Needs.{needs}
 use Rattle.commit.specs.Leave.{clearing-few, clearing-sizes, clear-rows-inside, clear-bodies-inside, clear-both}

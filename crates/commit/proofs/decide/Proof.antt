@@ -1,6 +1,5 @@
 -- `commit::decide` meets its contract: the run on record is loaded and tested; kept, or the body run whole.
 use mathlib.Core.Path.{_≡_, refl}
-use Prim.Native.Nat.{_-_}
 use native.Mathlib.Omega.{arith}
 use borrow.Author.Needs.{needs}
 use Rattle.operation.specs.Body.{registerCount}

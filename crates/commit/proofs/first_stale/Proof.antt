@@ -6,8 +6,9 @@ use lib.ListN.{length}
 use borrow.Author.Needs.{needs}
 use Rattle.operation.specs.Body.{registerCount}
 use Rattle.execution.specs.Arrays.{Room}
-use Rattle.commit.specs.Install.{holds-length}
-use Rattle.commit.specs.Restart.{count-read, few-pending}
+use Rattle.layout.specs.Holds.{holds-long}
+use Rattle.layout.specs.Printable.{few-pending}
+use Rattle.layout.specs.Reading.{count-read}
 use Rattle.commit.specs.Walk.{Walking, Walked, row-ends, lent-readable, loaded-reads, loaded-writes, loaded-few, walked-start, walked-all, walked-stale, walked-next, writes-sound}
 use Rattle.commit.proofs.first_stale.Statement.{statement}
 use Rattle.commit.proofs.first_stale.Tie as tie
@@ -32,7 +33,7 @@ get-requires c κs =
     let b = c .before .before in
     let p = b .pre .1 in
     let a = c .pending-at .ensures in
-    omega (arith, holds-length (b .args .l) (b .pre .0) (b .args .records .now) (p .replica) (p .holds))
+    omega (arith, holds-long (b .args .l) (b .pre .0) (b .args .records .now) (p .replica) (p .holds))
 
 row-width-requires : tie.Need-row-width-requires Inv-loop μ-loop
 row-width-requires c κs =
@@ -46,7 +47,7 @@ mul-width c =
 loop-holds : tie.Need-loop-holds Inv-loop μ-loop
 loop-holds c =
     let b = c .before .before .before .before in
-    (omega arith, (four, record { objects = refl; values = refl }, record { objects = refl; values = refl }), refl, λ p. walked-start (p .replica .pending) (b .args .table .now) (c .before .get .result) (count-read (b .args .l) (b .pre .0) (b .args .records .now) (p .replica) (p .holds) (c .before .before .pending-at .result) (c .before .get .result) (c .before .before .pending-at .ensures .exact) (c .before .get .ensures)))
+    (omega arith, (four, record { objects = refl; values = refl }, record { objects = refl; values = refl }), refl, λ p. walked-start (p .replica .pending) (b .args .table .now) (c .before .get .result) (count-read (b .args .l) (b .pre .0) (b .args .records .now) (p .replica) (p .holds) (c .before .before .pending-at .result) (c .before .get .result) (c .before .get .ensures) (c .before .before .pending-at .ensures .exact)))
 
 row-at-requires : tie.Need-row-at-requires Inv-loop μ-loop
 row-at-requires c κs =
@@ -54,7 +55,7 @@ row-at-requires c κs =
     let k = c .before .loop in
     let p = b .pre .1 in
     let low : k .i < length (p .replica .pending) = omega (arith, k .inv .3 p .count, c .loop-test .taken) in
-    let m = few-pending (b .args .l) (b .args .records .now) (p .replica) (p .holds) in
+    let m = few-pending (b .args .l) (p .replica) (p .holds .fits) in
     (b .pre .0, omega arith)
 
 mul-at : tie.Need-mul-at Inv-loop μ-loop

@@ -4,8 +4,8 @@ use Prim.Native.Nat.{ℕ, _≤_, _-_}
 use native.Mathlib.Omega.{arith}
 use borrow.Author.Needs.{needs}
 use Rattle.execution.specs.Arrays.{entries}
-use Rattle.layout.specs.Holds.{Holds}
-use Rattle.commit.specs.Install.{Ready, installed, holds-length, install-start, object-there, block-inside, push-lent, push-ok, install-step}
+use Rattle.layout.specs.Holds.{Holds, holds-long}
+use Rattle.commit.specs.Install.{Ready, installed, install-start, object-there, block-inside, push-lent, push-ok, install-step}
 use Rattle.commit.proofs.install.Statement.{statement}
 use Rattle.commit.proofs.install.Tie as tie
 
@@ -109,8 +109,8 @@ same-length : tie.Need-same-length Inv-loop μ-loop
 same-length c =
     let b = c .before .before .before .before .before in
     let p = b .pre .1 .1 in
-    holds-length (b .args .l) (b .pre .0) (c .before .loop .records) (installed (b .args .timestamp) (entries (c .before .loop .i) (b .args .wo .now) (b .args .wv .now)) (p .replica)) (c .before .loop .inv .1 p)
-    ∙ sym (holds-length (b .args .l) (b .pre .0) (b .args .records .now) (p .replica) (p .holds))
+    holds-long (b .args .l) (b .pre .0) (c .before .loop .records) (installed (b .args .timestamp) (entries (c .before .loop .i) (b .args .wo .now) (b .args .wv .now)) (p .replica)) (c .before .loop .inv .1 p)
+    ∙ sym (holds-long (b .args .l) (b .pre .0) (b .args .records .now) (p .replica) (p .holds))
 
 returns : tie.Need-returns Inv-loop μ-loop
 returns c =

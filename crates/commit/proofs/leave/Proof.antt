@@ -1,9 +1,8 @@
 -- `commit::leave` meets its contract: those that stay are closed up, and the places behind them cleared.
-use Prim.Native.Nat.{_-_}
 use native.Mathlib.Omega.{arith}
 use borrow.Author.Needs.{needs}
-use Rattle.commit.specs.Install.{holds-length}
-use Rattle.commit.specs.Restart.{count-read}
+use Rattle.layout.specs.Holds.{holds-long}
+use Rattle.layout.specs.Reading.{count-read}
 use Rattle.commit.specs.Leave.{counted, closed-clearing, closed}
 use Rattle.commit.proofs.leave.Statement.{statement}
 use Rattle.commit.proofs.leave.Tie as tie
@@ -17,19 +16,19 @@ get-requires c κs =
     let b = c .before .before .before .before in
     let p = b .pre .1 in
     let a = c .pending-at .ensures in
-    omega (arith, holds-length (b .args .l) (b .pre .0) (b .args .records .now) (p .replica) (p .holds))
+    omega (arith, holds-long (b .args .l) (b .pre .0) (b .args .records .now) (p .replica) (p .holds))
 
 close-up-requires : tie.Need-close-up-requires
 close-up-requires c κs =
     let b = c .before .before .before .before .before .before .before in
     let p = b .pre .1 in
-    (b .pre .0, (counted (b .args .l) (b .args .records .now) (b .args .bodies .now) (c .before .before .get .result) p (count-read (b .args .l) (b .pre .0) (b .args .records .now) (p .replica) (p .holds) (c .before .before .before .pending-at .result) (c .before .before .get .result) (c .before .before .before .pending-at .ensures .exact) (c .before .before .get .ensures))))
+    (b .pre .0, (counted (b .args .l) (b .args .records .now) (b .args .bodies .now) (c .before .before .get .result) p (count-read (b .args .l) (b .pre .0) (b .args .records .now) (p .replica) (p .holds) (c .before .before .before .pending-at .result) (c .before .before .get .result) (c .before .before .get .ensures) (c .before .before .before .pending-at .ensures .exact))))
 
 clear-from-requires : tie.Need-clear-from-requires
 clear-from-requires c κs =
     let b = c .before .before .before .before .before .before .before .before .before .before .before .before .before .before in
     let p = b .pre .1 in
-    (b .pre .0, closed-clearing (b .args .l) (b .pre .0) _ _ (p .replica) (b .args .client) (b .args .sequence) (c .before .before .before .before .before .before .before .before .before .get .result) (c .before .before .before .before .before .before .close-up .result) (c .before .before .before .before .before .before .close-up .ensures (counted (b .args .l) (b .args .records .now) (b .args .bodies .now) (c .before .before .before .before .before .before .before .before .before .get .result) p (count-read (b .args .l) (b .pre .0) (b .args .records .now) (p .replica) (p .holds) (c .before .before .before .before .before .before .before .before .before .before .pending-at .result) (c .before .before .before .before .before .before .before .before .before .get .result) (c .before .before .before .before .before .before .before .before .before .before .pending-at .ensures .exact) (c .before .before .before .before .before .before .before .before .before .get .ensures)))))
+    (b .pre .0, closed-clearing (b .args .l) (b .pre .0) _ _ (p .replica) (b .args .client) (b .args .sequence) (c .before .before .before .before .before .before .before .before .before .get .result) (c .before .before .before .before .before .before .close-up .result) (c .before .before .before .before .before .before .close-up .ensures (counted (b .args .l) (b .args .records .now) (b .args .bodies .now) (c .before .before .before .before .before .before .before .before .before .get .result) p (count-read (b .args .l) (b .pre .0) (b .args .records .now) (p .replica) (p .holds) (c .before .before .before .before .before .before .before .before .before .before .pending-at .result) (c .before .before .before .before .before .before .before .before .before .get .result) (c .before .before .before .before .before .before .before .before .before .get .ensures) (c .before .before .before .before .before .before .before .before .before .before .pending-at .ensures .exact)))))
 
 same-length : tie.Need-same-length
 same-length c =
@@ -42,7 +41,7 @@ same-length-2 c =
 returns : tie.Need-returns
 returns c =
     let b = c .before .before .before .before .before .before .before .before .before .before .before .before .before .before .before .before .before .before .before in
-    λ p. closed (b .args .l) (b .pre .0) _ _ (p .replica) (b .args .client) (b .args .sequence) (c .before .before .before .before .before .before .before .before .before .before .before .before .before .before .get .result) (c .before .before .before .before .before .before .before .before .before .before .before .close-up .result) (c .before .before .before .before .before .before .before .before .before .before .before .close-up .ensures (counted (b .args .l) (b .args .records .now) (b .args .bodies .now) (c .before .before .before .before .before .before .before .before .before .before .before .before .before .before .get .result) p (count-read (b .args .l) (b .pre .0) (b .args .records .now) (p .replica) (p .holds) (c .before .before .before .before .before .before .before .before .before .before .before .before .before .before .before .pending-at .result) (c .before .before .before .before .before .before .before .before .before .before .before .before .before .before .get .result) (c .before .before .before .before .before .before .before .before .before .before .before .before .before .before .before .pending-at .ensures .exact) (c .before .before .before .before .before .before .before .before .before .before .before .before .before .before .get .ensures)))) _ _ (c .before .before .before .before .clear-from .ensures (closed-clearing (b .args .l) (b .pre .0) _ _ (p .replica) (b .args .client) (b .args .sequence) (c .before .before .before .before .before .before .before .before .before .before .before .before .before .before .get .result) (c .before .before .before .before .before .before .before .before .before .before .before .close-up .result) (c .before .before .before .before .before .before .before .before .before .before .before .close-up .ensures (counted (b .args .l) (b .args .records .now) (b .args .bodies .now) (c .before .before .before .before .before .before .before .before .before .before .before .before .before .before .get .result) p (count-read (b .args .l) (b .pre .0) (b .args .records .now) (p .replica) (p .holds) (c .before .before .before .before .before .before .before .before .before .before .before .before .before .before .before .pending-at .result) (c .before .before .before .before .before .before .before .before .before .before .before .before .before .before .get .result) (c .before .before .before .before .before .before .before .before .before .before .before .before .before .before .before .pending-at .ensures .exact) (c .before .before .before .before .before .before .before .before .before .before .before .before .before .before .get .ensures))))))
+    λ p. closed (b .args .l) (b .pre .0) _ _ (p .replica) (b .args .client) (b .args .sequence) (c .before .before .before .before .before .before .before .before .before .before .before .before .before .before .get .result) (c .before .before .before .before .before .before .before .before .before .before .before .close-up .result) (c .before .before .before .before .before .before .before .before .before .before .before .close-up .ensures (counted (b .args .l) (b .args .records .now) (b .args .bodies .now) (c .before .before .before .before .before .before .before .before .before .before .before .before .before .before .get .result) p (count-read (b .args .l) (b .pre .0) (b .args .records .now) (p .replica) (p .holds) (c .before .before .before .before .before .before .before .before .before .before .before .before .before .before .before .pending-at .result) (c .before .before .before .before .before .before .before .before .before .before .before .before .before .before .get .result) (c .before .before .before .before .before .before .before .before .before .before .before .before .before .before .get .ensures) (c .before .before .before .before .before .before .before .before .before .before .before .before .before .before .before .pending-at .ensures .exact)))) _ _ (c .before .before .before .before .clear-from .ensures (closed-clearing (b .args .l) (b .pre .0) _ _ (p .replica) (b .args .client) (b .args .sequence) (c .before .before .before .before .before .before .before .before .before .before .before .before .before .before .get .result) (c .before .before .before .before .before .before .before .before .before .before .before .close-up .result) (c .before .before .before .before .before .before .before .before .before .before .before .close-up .ensures (counted (b .args .l) (b .args .records .now) (b .args .bodies .now) (c .before .before .before .before .before .before .before .before .before .before .before .before .before .before .get .result) p (count-read (b .args .l) (b .pre .0) (b .args .records .now) (p .replica) (p .holds) (c .before .before .before .before .before .before .before .before .before .before .before .before .before .before .before .pending-at .result) (c .before .before .before .before .before .before .before .before .before .before .before .before .before .before .get .result) (c .before .before .before .before .before .before .before .before .before .before .before .before .before .before .get .ensures) (c .before .before .before .before .before .before .before .before .before .before .before .before .before .before .before .pending-at .ensures .exact))))))
 
 pub leave-spec : {M : Type 1} → statement M
 leave-spec =

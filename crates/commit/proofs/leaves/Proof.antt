@@ -1,5 +1,4 @@
 -- `commit::leaves` meets its contract: the client's keys are those from its first one on, up to the one with this number.
-use Prim.Native.Nat.{_-_}
 use native.Mathlib.Omega.{arith}
 use borrow.Author.Needs.{needs}
 use Rattle.commit.specs.Leave.{leaves-from, leaves-before}

@@ -1,6 +1,5 @@
 -- `commit::move_transaction` meets its contract: a transaction in its place stays there, else both moves are those of the laws.
 use mathlib.Core.Path.{refl}
-use Prim.Native.Nat.{_-_}
 use native.Mathlib.Omega.{arith}
 use borrow.Author.Needs.{needs}
 use Rattle.commit.specs.Leave.{moving-there, moved-none, row-inside, body-inside, move-both}

@@ -3,8 +3,9 @@ use mathlib.Core.Path.{sym, _∙_}
 use Prim.Native.Nat.{_-_}
 use native.Mathlib.Omega.{arith}
 use borrow.Author.Needs.{needs}
-use Rattle.commit.specs.Install.{holds-length}
-use Rattle.commit.specs.Restart.{Held, Restarting, count-read, restart-start, restart-end, restart-length, row-there, restart-inside, restart-step}
+use Rattle.layout.specs.Holds.{holds-long, Held}
+use Rattle.layout.specs.Reading.{count-read}
+use Rattle.commit.specs.Restart.{Restarting, restart-start, restart-end, restart-length, row-there, restart-inside, restart-step}
 use Rattle.commit.proofs.restart_from.Statement.{statement}
 use Rattle.commit.proofs.restart_from.Tie as tie
 
@@ -23,12 +24,12 @@ get-requires c κs =
     let b = c .before .before .before in
     let p = b .pre .1 in
     let a = c .pending-at .ensures in
-    omega (arith, holds-length (b .args .l) (b .pre .0) (b .args .records .now) (p .replica) (p .holds))
+    omega (arith, holds-long (b .args .l) (b .pre .0) (b .args .records .now) (p .replica) (p .holds))
 
 loop-holds : tie.Need-loop-holds Inv-loop μ-loop
 loop-holds c =
     let b = c .before .before .before .before in
-    λ p. restart-start (b .args .l) (b .pre .0) (b .args .records .now) (p .replica) (p .holds) (b .args .from) (c .get .result) (count-read (b .args .l) (b .pre .0) (b .args .records .now) (p .replica) (p .holds) (c .before .pending-at .result) (c .get .result) (c .before .pending-at .ensures .exact) (c .get .ensures))
+    λ p. restart-start (b .args .l) (b .pre .0) (b .args .records .now) (p .replica) (p .holds) (b .args .from) (c .get .result) (count-read (b .args .l) (b .pre .0) (b .args .records .now) (p .replica) (p .holds) (c .before .pending-at .result) (c .get .result) (c .get .ensures) (c .before .pending-at .ensures .exact))
 
 row-at-requires : tie.Need-row-at-requires Inv-loop μ-loop
 row-at-requires c κs =
@@ -84,7 +85,7 @@ same-length c =
     let b = c .before .before .before .before .before .before in
     let p = b .pre .1 in
     restart-length (b .args .l) (b .pre .0) (c .before .loop .records) (p .replica) (b .args .from) (c .before .before .get .result) (c .before .loop .i) (c .before .loop .inv p)
-    ∙ sym (holds-length (b .args .l) (b .pre .0) (b .args .records .now) (p .replica) (p .holds))
+    ∙ sym (holds-long (b .args .l) (b .pre .0) (b .args .records .now) (p .replica) (p .holds))
 
 returns : tie.Need-returns Inv-loop μ-loop
 returns c =

@@ -1,7 +1,6 @@
 -- `lent_areas::checksum` meets its contract: the sum stays below 2^32, so that no turn overflows. Assumes nothing.
 use Prim.Native.Nat.{_≤_, _<_, _-_}
 use native.Mathlib.Omega.{arith}
-use borrow.Author.Needs.{needs}
 use lib.ListN.{length}
 use Rattle.lent_areas.proofs.checksum.Statement.{statement}
 use Rattle.lent_areas.proofs.checksum.Tie as tie

@@ -47,8 +47,8 @@ put-objects-requires c κs =
       zeros = lent-blank (a .l) (a .records .now) (z .fill-zero .last .0) (p .record-area) (z .fill-zero .ensures) n (f .result) (e .result) (f .ensures .exact) (e .ensures .exact) (e .ensures .inside);
     }
 
-add-put : tie.Need-add-put
-add-put c = search needs
+size-at-requires : tie.Need-size-at-requires
+size-at-requires c κs = search needs
 
 put-requires : tie.Need-put-requires
 put-requires c κs = search needs
@@ -72,10 +72,11 @@ returns c =
     let f = w .before .before .before .object-at in
     let e = w .before .before .object-at2 in
     let o = w .put-objects in
+    let at = c .before .before .before .before .before .before .before .size-at in
     let y = w .before .before .before .before .before .before .fill-zero2 in
     opened-areas (a .l) (p .sane) (a .values .now) (p .few) (o .ensures .fits) (a .timestamp) (search needs) _ _ _
     (put-back (a .l) (a .records .now) (z .fill-zero .last .0) (p .record-area) (z .fill-zero .ensures) n (f .result) (e .result) (f .ensures .exact) (e .ensures .exact) (o .last .0) _ (o .ensures .whole))
-    (c .before .before .before .before .before .before .put .ensures) (c .before .before .put2 .ensures) (y .last .0)
+    (at .result) (at .ensures .exact) (c .before .before .before .before .before .before .put .ensures) (c .before .before .put2 .ensures) (y .last .0)
     (y .ensures ∙ cleared (a .bodies .now) (length (a .bodies .now)) refl ∙ ap blank (p .body-area))
 
 pub fill-spec : {M : Type 1} → statement M
@@ -92,7 +93,7 @@ fill-spec =
     part-put-objects-start
     part-put-objects-end
     put-objects-requires
-    add-put
+    size-at-requires
     put-requires
     put-requires-2
     same-length

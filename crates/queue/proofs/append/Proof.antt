@@ -1,6 +1,6 @@
 -- `queue::append` meets its contract: each write lies in its area, and leaves what the contract says.
 use mathlib.Core.Path.{refl, ap, _∙_, subst}
-use Prim.Native.Nat.{ℕ, _+_, _-_}
+use Prim.Native.Nat.{ℕ, _+_}
 use native.Mathlib.Omega.{arith}
 use native.Mathlib.Nat.{mul-le-mul-right}
 use borrow.Author.Needs.{needs}

@@ -12,8 +12,8 @@ use Rattle.model.specs.Replica.{Replica}
 use Rattle.layout.specs.Layout.{Areas, parse}
 use Rattle.layout.specs.Offsets.{record-length}
 use Rattle.layout.specs.Holds.{Holds, HoldsBodies, holds-long, bodies-long}
-use Rattle.layout.specs.Reading.{get-last, get-size}
-use Rattle.queue.specs.Place.{fit-holds, fit-bodies}
+use Rattle.layout.specs.Reading.{last-read, size-read}
+use Rattle.layout.specs.Fit.{fit-holds, fit-bodies}
 use Rattle.queue.specs.Found.{position}
 use Rattle.queue.specs.Delivered.{deliver-3, deliver-4, deliver-5, deliver-6, deliver-7, deliver-0}
 use Rattle.queue.proofs.deliver_optimistic.Statement.{statement}
@@ -48,7 +48,7 @@ abbrev s₁ : tie.Else1 → tie.Start
 s₁ c = entry c .before
 
 abbrev e₁ : tie.Else2 → tie.Else1
-e₁ c = c .before .before .before
+e₁ c = c .before .before .before .before
 
 abbrev s₂ : tie.Else2 → tie.Start
 s₂ c = s₁ (e₁ c)
@@ -71,11 +71,12 @@ low : (c : tie.Else1) → s₁ c .args .client < clients
 unfolding clients
 low c = omega arith
 
-last : (c : tie.After-get) → c .get .result ≡ getD (replica (s₁ (c .before .before)) .lasts) (s₁ (c .before .before) .args .client) 0
+last : (c : tie.After-get) → c .get .result ≡ getD (replica (s₁ (c .before .before .before)) .lasts) (s₁ (c .before .before .before) .args .client) 0
 last c =
-    let e = c .before .before in
+    let e = c .before .before .before in
     let s = s₁ e in
-    c .get .ensures ∙ get-last (s .args .l) (s .pre .0 .0) (s .args .records .now) (replica s) (held (entry e)) (s .args .client) (low e)
+    let a = c .before .last-at in
+    last-read (s .args .l) (s .pre .0 .0) (s .args .records .now) (replica s) (held (entry e)) (a .result) (c .get .result) (c .get .ensures) (s .args .client) (low e) (a .ensures .exact)
 
 unspent : (c : tie.Else2) → getD (replica (s₂ c) .lasts) (s₂ c .args .client) 0 < s₂ c .args .sequence
 unspent c = omega (arith, last (c .before))
@@ -94,7 +95,8 @@ absent c = let p = c .before .before in omega (arith, stands p, counts p)
 objects : (c : tie.After-decode) → c .before .get2 .result ≡ length (replica (s₄ c) .objects)
 objects c =
     let s = s₄ c in
-    c .before .get2 .ensures ∙ get-size (s .args .l) (s .pre .0 .0) (s .args .records .now) (replica s) (held (entry (e₁ (e₂ (e₃ c)))))
+    let a = c .before .before .size-at in
+    size-read (s .args .l) (s .pre .0 .0) (s .args .records .now) (replica s) (held (entry (e₁ (e₂ (e₃ c))))) (a .result) (c .before .get2 .result) (c .before .get2 .ensures) (a .ensures .exact)
 
 well : (c : tie.After-enum-told) → wellFormed (s₄ (c .before .before) .args .l .operations) (length (replica (s₄ (c .before .before)) .objects)) (s₄ (c .before .before) .args .body .now) ≡ true
 well c =
@@ -109,11 +111,12 @@ returns c =
     let s = c .before .before .before .before in
     deliver-3 (s .args .l) (areas s) (s .pre .1) (s .args .client) (s .args .sequence) (s .args .body .now) (omega arith)
 
-add-get : tie.Need-add-get
-add-get c = search needs
+last-at-requires : tie.Need-last-at-requires
+last-at-requires c κs = (entry (c .before) .before .pre .0 .0, omega (arith, low (c .before)))
 
 get-requires : tie.Need-get-requires
-get-requires c κs = omega (arith, area (entry (c .before)))
+unfolding clients
+get-requires c κs = omega (arith, c .last-at .ensures .exact, low (c .before .before), area (entry (c .before .before)))
 
 same-length : tie.Need-same-length
 same-length c = search needs
@@ -121,7 +124,7 @@ same-length c = search needs
 returns-2 : tie.Need-returns-2
 returns-2 c =
     let g = c .before in
-    let e = g .before .before in
+    let e = g .before .before .before in
     let s = s₁ e in
     deliver-4 (s .args .l) (areas s) (s .pre .1) (s .args .client) (s .args .sequence) (s .args .body .now) (low e) (omega (arith, last g))
 
@@ -139,11 +142,11 @@ returns-3 c =
     let s = s₂ e in
     deliver-5 (s .args .l) (areas s) (s .pre .1) (s .args .client) (s .args .sequence) (s .args .body .now) (low (e₁ e)) (unspent e) (omega (arith, stands p, counts p))
 
-add-get-2 : tie.Need-add-get-2
-add-get-2 c = search needs
+size-at-requires : tie.Need-size-at-requires
+size-at-requires c κs = s₃ (c .before) .pre .0 .0
 
 get-requires-2 : tie.Need-get-requires-2
-get-requires-2 c κs = omega (arith, area (entry (e₁ (e₂ (c .before .before)))))
+get-requires-2 c κs = omega (arith, c .size-at .ensures .exact, area (entry (e₁ (e₂ (c .before .before)))))
 
 decode-requires : tie.Need-decode-requires
 decode-requires c κs = search needs
@@ -214,14 +217,14 @@ deliver-optimistic-spec =
     tie.close
     (tie.spec
     returns
-    add-get
+    last-at-requires
     get-requires
     same-length
     returns-2
     locate-requires
     same-length-2
     returns-3
-    add-get-2
+    size-at-requires
     get-requires-2
     decode-requires
     enum-told

@@ -8,7 +8,8 @@ use Rattle.layout.specs.Layout.{Areas, parse}
 use Rattle.layout.specs.Offsets.{body-at}
 use Rattle.layout.specs.OffsetLaws.{body-room}
 use Rattle.layout.specs.Holds.{Holds, HoldsBodies, bodies-long}
-use Rattle.queue.specs.Place.{few-pending, fit-holds, fit-bodies}
+use Rattle.layout.specs.Fit.{fit-holds, fit-bodies}
+use Rattle.layout.specs.Printable.{few-pending}
 use Rattle.queue.specs.Found.{position, find-3, find-8, find-found}
 use Rattle.queue.proofs.find.Statement.{statement}
 use Rattle.queue.proofs.find.Tie as tie
@@ -54,7 +55,7 @@ low : (c : tie.Else2) → c .before .before .locate .result .position < c .befor
 low c =
     let p = c .before .before in
     let s = p .before .before .before .before in
-    omega (arith, counts p, few-pending (s .args .l) (s .pre .0) (s .args .records .now) (parse (s .args .l) (areas s)) (held (p .before .before .before)))
+    omega (arith, counts p, few-pending (s .args .l) (parse (s .args .l) (areas s)) (held (p .before .before .before) .fits))
 
 body-at-requires : tie.Need-body-at-requires
 body-at-requires c κs = (c .before .before .before .before .before .before .pre .0, omega (arith, low c))

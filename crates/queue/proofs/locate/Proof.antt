@@ -3,12 +3,11 @@ use mathlib.Core.Path.{_≡_, refl, ap, _∙_}
 use Prim.Native.Nat.{ℕ, _*_, _-_}
 use native.Mathlib.Omega.{arith}
 use borrow.Author.Needs.{needs}
-use lib.ListN.{length, getD}
-use Rattle.cells.specs.Cells.{cells}
+use lib.ListN.{length}
 use Rattle.model.specs.Replica.{Replica}
 use Rattle.layout.specs.Offsets.{record-length}
 use Rattle.layout.specs.Holds.{Holds, holds-long}
-use Rattle.layout.specs.Reading.{get-pending}
+use Rattle.layout.specs.Reading.{count-read}
 use Rattle.queue.specs.Place.{rows-room, position-of}
 use Rattle.queue.proofs.locate.Statement.{statement}
 use Rattle.queue.proofs.locate.Tie as tie
@@ -48,7 +47,7 @@ row-width-requires c κs = search needs
 the-count : (c : tie.After-get) (u : Replica) → Holds (c .before .before .before .args .l) (c .before .before .before .args .records .now) u → c .get .result ≡ length (u .pending)
 the-count c u h =
     let s = c .before .before .before in
-    c .get .ensures ∙ ap (λ (i : ℕ). getD (cells (s .args .records .now)) i 0) (c .before .pending-at .ensures .exact) ∙ get-pending (s .args .l) (s .pre .0) (s .args .records .now) u h
+    count-read (s .args .l) (s .pre .0) (s .args .records .now) u h (c .before .pending-at .result) (c .get .result) (c .get .ensures) (c .before .pending-at .ensures .exact)
 
 key-index-requires : tie.Need-key-index-requires
 key-index-requires c κs =

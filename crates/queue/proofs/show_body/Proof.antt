@@ -8,7 +8,7 @@ use Rattle.model.specs.Answers.{finding}
 use Rattle.layout.specs.Layout.{parse}
 use Rattle.layout.specs.Holds.{HoldsBodies}
 use Rattle.layout.specs.Act.{act}
-use Rattle.queue.specs.Place.{fit-bodies}
+use Rattle.layout.specs.Fit.{fit-bodies}
 use Rattle.queue.specs.Shown.{shown-none, shown-low, shown-room, shown-some}
 use Rattle.queue.proofs.show_body.Statement.{statement}
 use Rattle.queue.proofs.show_body.Tie as tie

@@ -1,5 +1,5 @@
 -- `replica::close_reader_within` meets its contract: where the areas have the shape, `snapshots::close_reader`, which leaves the bodies alone. Assumes nothing.
-use mathlib.Core.Path.{_≡_, refl, sym, ap, _∙_}
+use mathlib.Core.Path.{sym, _∙_}
 use native.Mathlib.Omega.{arith}
 use denote.Ref.{now}
 use borrow.Author.Needs.{needs}

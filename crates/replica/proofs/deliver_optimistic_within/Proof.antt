@@ -1,5 +1,5 @@
 -- `replica::deliver_optimistic_within` meets its contract: where the areas have the shape, `queue::deliver_optimistic`. Assumes nothing.
-use mathlib.Core.Path.{_≡_, refl, sym, ap, _∙_}
+use mathlib.Core.Path.{sym, _∙_}
 use denote.Ref.{now}
 use borrow.Author.Needs.{needs}
 use Rattle.model.specs.Calls.{optimistic}

@@ -1,10 +1,10 @@
 -- `replica::find_within` meets its contract: where the areas have the shape, `queue::find`, which changes nothing. Assumes nothing.
-use mathlib.Core.Path.{_≡_, refl, sym, ap, _∙_}
+use mathlib.Core.Path.{sym, _∙_}
 use denote.Ref.{now}
 use borrow.Author.Needs.{needs}
 use Rattle.model.specs.Calls.{find}
 use Rattle.model.specs.Answers.{finding}
-use Rattle.layout.specs.Layout.{parse, body-of}
+use Rattle.layout.specs.Layout.{parse}
 use Rattle.replica.specs.Contract.{met-unfit, met-same, find-same}
 use Rattle.replica.proofs.find_within.Statement.{statement}
 use Rattle.replica.proofs.find_within.Tie as tie

@@ -1,6 +1,5 @@
 -- `replica::open` meets its contract: it is `open_within` at the standard limits. Assumes nothing.
 use borrow.Author.Needs.{needs}
-use native.Mathlib.Omega.{arith}
 use Rattle.model.specs.Limits.{standard}
 use Rattle.replica.proofs.open.Statement.{statement}
 use Rattle.replica.proofs.open.Tie as tie

@@ -2,7 +2,7 @@
 use native.Mathlib.Omega.{arith}
 use borrow.Author.Needs.{needs}
 use denote.Ref.{now}
-use mathlib.Core.Path.{_≡_, sym, _∙_}
+use mathlib.Core.Path.{sym, _∙_}
 use Rattle.replica.specs.Opening.{wrong-record, wrong-bodies, none, too-many, not-n, filled}
 use Rattle.replica.proofs.open_within.Statement.{statement}
 use Rattle.replica.proofs.open_within.Tie as tie

@@ -1,5 +1,5 @@
 -- `replica::read_within` meets its contract: where the areas have the shape, `snapshots::read`, which changes nothing. Assumes nothing.
-use mathlib.Core.Path.{_≡_, refl, sym, ap, _∙_}
+use mathlib.Core.Path.{sym, ap, _∙_}
 use denote.Ref.{now}
 use borrow.Author.Needs.{needs}
 use mathlib.Core.List.{map}

@@ -1,5 +1,5 @@
 -- `replica::show_body_within` meets its contract: where the areas have the shape, `queue::show_body`, else the empty part. Assumes nothing.
-use mathlib.Core.Path.{_≡_, refl, sym, ap, _∙_}
+use mathlib.Core.Path.{refl, sym, _∙_}
 use denote.Ref.{now}
 use borrow.Author.Needs.{needs}
 use Rattle.replica.specs.ShowBody.{shown-unfit}

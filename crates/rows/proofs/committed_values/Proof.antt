@@ -10,6 +10,7 @@ use borrow.Author.Count.{below-none}
 use denote.Ref.{now}
 use Rattle.cells.specs.Cells.{cells}
 use Rattle.cells.specs.Signed.{told}
+use Rattle.layout.specs.Offsets.{size-at}
 use Rattle.rows.specs.Listed.{fill-next, take-listed}
 use Rattle.rows.specs.Committed.{value-in, value-inside, size-inside}
 use Rattle.rows.proofs.committed_values.Statement.{statement}
@@ -21,20 +22,26 @@ Inv-loop area l values₀ n i₀ values i = (i ≤ n) × (length values ≡ 128)
 abbrev μ-loop : tie.MeasureT-loop
 μ-loop area l values₀ n i₀ values i = n - i
 
+-- the number of objects, as the cell has it
+size : (c : tie.After-get Inv-loop μ-loop) → (let s = c .before .before .before in c .get .result ≡ getD (cells (now (s .args .area))) (size-at (s .args .l)) 0)
+size c =
+    let s = c .before .before .before in
+    c .get .ensures ∙ ap (λ (k : ℕ). getD (cells (now (s .args .area))) k 0) (c .before .size-at .ensures .exact)
+
 -- an index that is passed is an object's
 low : (c : tie.In-loop Inv-loop μ-loop) → (let l = c .before in l .loop .i < l .before .before .before .before .args .l .objects)
 low c =
     let s = c .before .before .before .before .before in
-    omega (arith, c .before .before .get .ensures, s .pre .1 .few)
+    omega (arith, size (c .before .before), s .pre .1 .few)
 
 below : (c : tie.In-loop Inv-loop μ-loop) → c .before .loop .i < 128
 below c = let s = c .before .before .before .before .before in omega (arith, low c, s .pre .1 .room)
 
-add-get : tie.Need-add-get Inv-loop μ-loop
-add-get c = let s = c .before .before .pre .0 .readers in omega arith
+size-at-requires : tie.Need-size-at-requires Inv-loop μ-loop
+size-at-requires c κs = c .before .pre .0
 
 get-requires : tie.Need-get-requires Inv-loop μ-loop
-get-requires c κs = let s = c .before .before in omega (arith, size-inside (s .args .l), s .pre .1 .whole)
+get-requires c κs = let s = c .before .before in omega (arith, c .size-at .ensures .exact, size-inside (s .args .l), s .pre .1 .whole)
 
 loop-holds : tie.Need-loop-holds Inv-loop μ-loop
 loop-holds c =
@@ -83,9 +90,9 @@ returns c =
     let e : l .loop .i ≡ n = omega arith in
     let p = l .before .before .before .before .pre in
     record {
-      size = l .before .get .ensures;
+      size = size (l .before);
       room = v .1;
-      values = take-listed (value-in (a .l) (cells (now (a .area)))) (pos 0) (l .loop .values) n (omega (arith, l .before .get .ensures, p .1 .few, p .1 .room, v .1)) (rw e at (v .2));
+      values = take-listed (value-in (a .l) (cells (now (a .area)))) (pos 0) (l .loop .values) n (omega (arith, size (l .before), p .1 .few, p .1 .room, v .1)) (rw e at (v .2));
     }
 
 pub committed-values-spec : {M : Type 1} → statement M
@@ -94,7 +101,7 @@ committed-values-spec =
     (tie.spec
     Inv-loop
     μ-loop
-    add-get
+    size-at-requires
     get-requires
     loop-holds
     object-at-requires

@@ -1,16 +1,36 @@
 -- `snapshots::read` meets its contract: each way out is a law of specs/Readers.antt, and the block that is lent says the object's versions.
-use Prim.Native.Nat.{_+_, _*_}
+use mathlib.Core.Path.{_≡_}
+use Prim.Native.Nat.{_+_, _*_, _≤_}
 use native.Mathlib.Omega.{arith}
+use lib.ListN.{length}
 use borrow.Author.Needs.{needs}
 use borrow.Rule.Slice.PartMut.{mid-len}
 use Rattle.cells.specs.Signed.{told}
-use Rattle.layout.specs.Offsets.{size-at}
-use Rattle.layout.specs.Reading.{get-size}
-use Rattle.snapshots.specs.Areas.{cell-inside, size-few, object-inside, block-span}
+use Rattle.model.specs.Replica.{Replica}
+use Rattle.layout.specs.Offsets.{reader-at, size-at}
+use Rattle.layout.specs.OffsetLaws.{block-span}
+use Rattle.layout.specs.Holds.{Holds}
+use Rattle.layout.specs.Reading.{cell-inside, size-read, size-few, object-inside}
 use Rattle.snapshots.specs.Blocks.{lent-count}
 use Rattle.snapshots.specs.Readers.{read-no-reader, read-not-open, read-no-object, read-done}
 use Rattle.snapshots.proofs.read.Statement.{statement}
 use Rattle.snapshots.proofs.read.Tie as tie
+
+-- ---- the entry, and the number of objects that was read
+
+abbrev entry : tie.After-get2 → tie.Start
+entry c = c .before .before .before .before .before .before .before .before
+
+objects : (c : tie.After-get2) (u : Replica) → Holds (entry c .args .l) (entry c .args .records .now) u → c .get2 .result ≡ length (u .objects)
+objects c u h =
+    let e = entry c in
+    size-read (e .args .l) (e .pre .sane) (e .args .records .now) u h (c .before .size-at .result) (c .get2 .result) (c .get2 .ensures) (c .before .size-at .ensures .exact)
+
+few : (c : tie.After-get2) → c .get2 .result ≤ entry c .args .l .objects
+few c =
+    let e = entry c in
+    let p = e .pre in
+    size-few (e .args .l) (p .sane) (e .args .records .now) (p .replica) (p .holds) (c .before .size-at .result) (c .get2 .result) (c .get2 .ensures) (c .before .size-at .ensures .exact)
 
 returns : tie.Need-returns
 returns c =
@@ -18,43 +38,42 @@ returns c =
     let a = e .args in
     λ u h g. read-no-reader (a .l) (e .pre .sane) (a .records .now) u h (a .reader) (search needs) (a .object)
 
-add-get : tie.Need-add-get
-add-get c = search needs
+reader-at-requires : tie.Need-reader-at-requires
+reader-at-requires c κs = (c .before .before .before .pre .sane, omega arith)
 
 get-requires : tie.Need-get-requires
 get-requires c κs =
-    let e = c .before .before .before in
+    let e = c .before .before .before .before in
     let p = e .pre in
-    omega (arith, cell-inside (e .args .l) (p .sane) (e .args .records .now) (p .replica) (p .holds) (17 + e .args .reader) (search needs))
+    omega (arith, c .reader-at .ensures .exact, cell-inside (e .args .l) (p .sane) (e .args .records .now) (p .replica) (p .holds) (reader-at (e .args .reader)) (omega arith))
 
 returns-2 : tie.Need-returns-2
 returns-2 c =
-    let e = c .before .before .before .before .before in
+    let e = c .before .before .before .before .before .before in
     let a = e .args in
     let x = c .before .get in
-    λ u h g. read-not-open (a .l) (e .pre .sane) (a .records .now) u h (a .reader) (search needs) (x .result) (x .ensures) (search needs) (a .object)
+    let at = c .before .before .reader-at in
+    λ u h g. read-not-open (a .l) (e .pre .sane) (a .records .now) u h (a .reader) (search needs) (at .result) (at .ensures .exact) (x .result) (x .ensures) (search needs) (a .object)
 
-add-get-2 : tie.Need-add-get-2
-add-get-2 c = search needs
+size-at-requires : tie.Need-size-at-requires
+size-at-requires c κs = c .before .before .before .before .before .before .pre .sane
 
 get-requires-2 : tie.Need-get-requires-2
 get-requires-2 c κs =
-    let e = c .before .before .before .before .before .before in
+    let e = c .before .before .before .before .before .before .before in
     let p = e .pre in
-    omega (arith, cell-inside (e .args .l) (p .sane) (e .args .records .now) (p .replica) (p .holds) (size-at (e .args .l)) (omega arith))
+    omega (arith, c .size-at .ensures .exact, cell-inside (e .args .l) (p .sane) (e .args .records .now) (p .replica) (p .holds) (size-at (e .args .l)) (omega arith))
 
 returns-3 : tie.Need-returns-3
 returns-3 c =
-    let e = c .before .before .before .before .before .before .before .before in
+    let e = entry (c .before) in
     let a = e .args in
     let x = c .before .before .before .before .get in
-    λ u h g. read-no-object (a .l) (e .pre .sane) (a .records .now) u h (a .reader) (search needs) (x .result) (x .ensures) (search needs) (a .object) (omega (arith, c .before .get2 .ensures, get-size (a .l) (e .pre .sane) (a .records .now) u h))
+    let at = c .before .before .before .before .before .reader-at in
+    λ u h g. read-no-object (a .l) (e .pre .sane) (a .records .now) u h (a .reader) (search needs) (at .result) (at .ensures .exact) (x .result) (x .ensures) (search needs) (a .object) (omega (arith, objects (c .before) u h))
 
 object-at-requires : tie.Need-object-at-requires
-object-at-requires c κs =
-    let e = c .before .before .before .before .before .before .before .before in
-    let p = e .pre in
-    (p .sane, omega (arith, c .before .get2 .ensures, size-few (e .args .l) (p .sane) (e .args .records .now) (p .replica) (p .holds)))
+object-at-requires c κs = (entry (c .before) .pre .sane, omega (arith, few (c .before)))
 
 mul-first : tie.Need-mul-first
 mul-first c = search needs
@@ -63,10 +82,7 @@ add-object-at : tie.Need-add-object-at
 add-object-at c = search needs
 
 object-at-requires-2 : tie.Need-object-at-requires-2
-object-at-requires-2 c κs =
-    let e = c .before .before .before .before .before .before .before .before .before in
-    let p = e .pre in
-    (p .sane, omega (arith, c .before .before .get2 .ensures, size-few (e .args .l) (p .sane) (e .args .records .now) (p .replica) (p .holds)))
+object-at-requires-2 c κs = (entry (c .before .before) .pre .sane, omega (arith, few (c .before .before)))
 
 mul-end : tie.Need-mul-end
 mul-end c = search needs
@@ -77,48 +93,51 @@ sub-lookup c = search needs
 part-lookup-start : tie.Need-part-lookup-start
 part-lookup-start c = search needs
 
-part-lookup-end : tie.Need-part-lookup-end
-part-lookup-end c =
-    let e = c .before .before .before .before .before .before .before .before .before .before in
+-- the block ends in the area
+ends : (c : tie.After-object-at2) → c .object-at2 .result * 8 ≤ length (entry (c .before .before .before) .args .records .now)
+ends c =
+    let g = c .before .before .before in
+    let e = entry g in
     let p = e .pre in
-    let n = size-few (e .args .l) (p .sane) (e .args .records .now) (p .replica) (p .holds) in
-    omega (arith, object-inside (e .args .l) (p .sane) (e .args .records .now) (p .replica) (p .holds) (e .args .object + 1) (c .object-at2 .result) (omega (arith, c .before .before .before .get2 .ensures)) (c .object-at2 .ensures .exact))
+    object-inside (e .args .l) (p .sane) (e .args .records .now) (p .replica) (p .holds) (e .args .object + 1) (c .object-at2 .result) (omega (arith, few g)) (c .object-at2 .ensures .exact)
+
+part-lookup-end : tie.Need-part-lookup-end
+part-lookup-end c = omega (arith, ends c)
 
 sub-lookup-2 : tie.Need-sub-lookup-2
 sub-lookup-2 c = search needs
 
 lookup-requires : tie.Need-lookup-requires
 lookup-requires c κs =
-    let e = c .before .before .before .before .before .before .before .before .before .before .before in
+    let g = c .before .before .before .before in
+    let e = entry g in
     let a = e .args in
     let p = e .pre in
     let f = c .before .before .object-at in
     let t = c .before .object-at2 in
-    let n = size-few (e .args .l) (p .sane) (e .args .records .now) (p .replica) (p .holds) in
-    let k = get-size (e .args .l) (p .sane) (e .args .records .now) (p .replica) (p .holds) in
     let w = block-span (a .l) (a .object) (f .result) (t .result) (f .ensures .exact) (t .ensures .exact) in
-    let z = object-inside (e .args .l) (p .sane) (e .args .records .now) (p .replica) (p .holds) (a .object + 1) (t .result) (omega (arith, c .before .before .before .before .get2 .ensures)) (t .ensures .exact) in
-    omega (arith, mid-len (f .result * 8) (t .result * 8) (a .records .now) z, w, lent-count (e .args .l) (p .sane) (e .args .records .now) (p .replica) (p .holds) (a .object) (omega (arith, c .before .before .before .before .get2 .ensures)) (f .result) _ (f .ensures .exact) w)
+    omega (arith, mid-len (f .result * 8) (t .result * 8) (a .records .now) (ends (c .before)), w, lent-count (e .args .l) (p .sane) (e .args .records .now) (p .replica) (p .holds) (a .object) (omega (arith, objects g (p .replica) (p .holds))) (f .result) _ (f .ensures .exact) w)
 
 returns-4 : tie.Need-returns-4
 returns-4 c =
-    let e = c .before .before .before .before .before .before .before .before .before .before .before .before in
+    let g = c .before .before .before .before .before in
+    let e = entry g in
     let a = e .args in
-    let x = c .before .before .before .before .before .before .before .before .get in
+    let x = g .before .before .before .get in
+    let at = g .before .before .before .before .reader-at in
     let f = c .before .before .before .object-at in
     let t = c .before .before .object-at2 in
-    let n = c .before .before .before .before .before .get2 in
-    λ u h g. read-done (a .l) (e .pre .sane) (a .records .now) u h (a .reader) (search needs) (x .result) (x .ensures) (search needs) (a .object) (omega (arith, n .ensures, get-size (a .l) (e .pre .sane) (a .records .now) u h)) (f .result) _ (f .ensures .exact) (block-span (a .l) (a .object) (f .result) (t .result) (f .ensures .exact) (t .ensures .exact)) _ (told (c .lookup .ok) (c .lookup .ensures))
+    λ u h k. read-done (a .l) (e .pre .sane) (a .records .now) u h (a .reader) (search needs) (at .result) (at .ensures .exact) (x .result) (x .ensures) (search needs) (a .object) (omega (arith, objects g u h)) (f .result) _ (f .ensures .exact) (block-span (a .l) (a .object) (f .result) (t .result) (f .ensures .exact) (t .ensures .exact)) _ (told (c .lookup .ok) (c .lookup .ensures))
 
 pub read-spec : {M : Type 1} → statement M
 read-spec =
     tie.close
     (tie.spec
     returns
-    add-get
+    reader-at-requires
     get-requires
     returns-2
-    add-get-2
+    size-at-requires
     get-requires-2
     returns-3
     object-at-requires

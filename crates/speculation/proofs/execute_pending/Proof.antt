@@ -9,8 +9,9 @@ use denote.Ref.{now}
 use Rattle.cells.specs.Cells.{cells, Below}
 use Rattle.layout.specs.Layout.{parse}
 use Rattle.layout.specs.Offsets.{record-length, body-at}
+use Rattle.layout.specs.Fit.{fit-says, lengths-say}
 use Rattle.speculation.specs.Passing.{Going, Worked}
-use Rattle.speculation.specs.Lent.{area-length, pending-there, low-place, body-inside, begun-first, begun-last, lent-ready, lent-most, lent-next, lent-last}
+use Rattle.speculation.specs.Lent.{pending-there, low-place, body-inside, begun-first, begun-last, lent-ready, lent-most, lent-next, lent-last}
 use Rattle.speculation.proofs.execute_pending.Statement.{statement}
 use Rattle.speculation.proofs.execute_pending.Tie as tie
 
@@ -54,7 +55,7 @@ whole : (lp : tie.At-loop Inv-loop μ-loop) → length (lp .loop .area) ≡ reco
 whole lp =
     let s = lp .before .before .before .before .before .before in
     let a = s .args in
-    lp .loop .inv .0 ∙ area-length (a .l) (s .pre .sane) (now (a .area)) (now (a .bodies)) (s .pre .fit)
+    lp .loop .inv .0 ∙ lengths-say (a .l) (now (a .area), now (a .bodies)) (fit-says (a .l) (now (a .area), now (a .bodies)) (s .pre .fit) .lengths) .0
 
 -- what a turn leaves
 most : (x : tie.After-advance Inv-loop μ-loop) → x .advance .result .used ≤ x .before .before .before .before .before .before .before .before .before .loop .left
@@ -77,7 +78,7 @@ pending-at-requires : tie.Need-pending-at-requires Inv-loop μ-loop
 pending-at-requires c κs = c .before .before .before .pre .sane
 
 get-requires : tie.Need-get-requires Inv-loop μ-loop
-get-requires c κs = let s = c .before .before .before .before in let a = s .args in omega (arith, c .pending-at .ensures .exact, area-length (a .l) (s .pre .sane) (now (a .area)) (now (a .bodies)) (s .pre .fit))
+get-requires c κs = let s = c .before .before .before .before in let a = s .args in omega (arith, c .pending-at .ensures .exact, lengths-say (a .l) (now (a .area), now (a .bodies)) (fit-says (a .l) (now (a .area), now (a .bodies)) (s .pre .fit) .lengths) .0)
 
 loop-holds : tie.Need-loop-holds Inv-loop μ-loop
 loop-holds c =
