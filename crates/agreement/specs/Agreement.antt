@@ -1,0 +1,53 @@
+-- DEMAND 3, whole, on the two lent areas: every list of calls by `act`, the function that the public contracts cite, each given both areas as the last one
+-- left them, from an accepted opening on areas with any contents (`Trace`). Assumes nothing.
+use mathlib.Core.Path.{_≡_, sym, subst}
+use mathlib.Core.Bool.{true, false}
+use mathlib.Core.List.{List, _∷_}
+use Prim.Native.Nat.{ℕ, _<_}
+use lib.ListN.{length}
+use Rattle.model.specs.declared.Limits.{Limits}
+use Rattle.model.specs.Lists.{any}
+use Rattle.model.specs.Calls.{Call, open-reader, read, done, value}
+use Rattle.model.specs.Serial as serial
+use Rattle.model.specs.Serial.{Serial}
+use Rattle.model.specs.Replica.{table}
+use Rattle.model.specs.ListLaws.{All}
+use Rattle.model.specs.ShapeKept.{Typed}
+use Rattle.model.specs.Serializability.{Serializable}
+use Rattle.model.specs.Replicas.{SameCommits}
+use Rattle.model.specs.Readers.{ends}
+use Rattle.model.specs.Record.{EarlyResults, demand-3-record}
+use Rattle.layout.specs.Fit.{fit}
+use Rattle.layout.specs.Act.{act, acts}
+use Rattle.layout.specs.Areas.{acts-fit, demand-3-areas}
+use Rattle.agreement.specs.Trace.{Trace, list, answers, areas, replica, history}
+use Rattle.agreement.specs.Laws.{replica-same, reads-as-opened, same-commits}
+
+-- What holds of a trace: the answers of its calls, and the replica that the areas say after them.
+pub record Demand3 {l : Limits} (x : Trace l) : Type 0 where
+  -- outcomes, readers' answers and the committed table equal those of a plain table that runs the finally delivered jobs one after another, whatever
+  -- that table held before
+  pub serializable : (p : Serial) → Serializable (answers x, replica x) (serial.calls l p (list x))
+  -- so two replicas with equal final deliveries agree, whatever their early orders: equal openings and accepted final deliveries, each key with its body,
+  -- give equal results and committed tables, on areas of any two kinds, wherever the rest of either list fell
+  pub agreement : {m : Limits} (y : Trace m) → history x ≡ history y → SameCommits (answers x, replica x) (answers y, replica y)
+  -- an open reader always sees the table as it stood when it was opened: after any calls but its close or a new opening
+  pub snapshot : (r : ℕ) → act l (open-reader r) (areas x) .0 ≡ done
+      → (cs : List Call) → All Typed cs → any (ends l r) cs ≡ false
+      → (o : ℕ) → o < length (replica x .objects)
+      → act l (read r o) (acts l (open-reader r ∷ cs) (areas x) .1) .0 ≡ value (table (replica x .objects) .look o)
+  -- early results on record "equal those of running the pending jobs in early order, each on the committed table with the stores of those before it, a
+  -- partly run one up to its place"
+  pub early : EarlyResults (replica x)
+  -- the areas pass the shape check
+  pub shape : fit l (areas x) ≡ true
+
+pub demand-3 : {l : Limits} (x : Trace l) → Demand3 x
+demand-3 {l} x =
+    record {
+      serializable = demand-3-areas l (x .sane) (x .size) (x .values) (x .timestamp) (x .before) (x .accepted) (x .typed .0) (x .later) (x .typed .1);
+      agreement = same-commits x;
+      snapshot = reads-as-opened x;
+      early = subst EarlyResults (sym (replica-same x)) (demand-3-record l (x .values) (x .timestamp) (x .later));
+      shape = acts-fit l (x .sane) (x .size) (x .values) (x .timestamp) (x .before) (x .accepted) (x .typed .0) (x .later) (x .typed .1);
+    }
