@@ -1,0 +1,118 @@
+// Thin forms for the cabinet's host, over records that it lends: the counters of a replica, and the pending transactions as a list.
+// Each takes a record apart for a covered function and stores what that returned; every branch stands in a covered function.
+ghost use mathlib.Core.Path.{_≡_};
+ghost use Rattle.host.specs.Counting.{nextTimestamp, deliveryNumber, delivered, finishedCount, workNumber, worked};
+ghost use Rattle.host.specs.Restart.{notBegun, restartedFrom};
+
+#[repr(C)]
+pub struct Counters {
+    // the commit timestamp ("stamp")
+    pub timestamp: u32,
+    // pending transactions, and how many of these are finished
+    pub pending: u32,
+    pub finished: u32,
+}
+
+// The commit timestamp after one delivery; the highest stays.
+fn next_timestamp(timestamp: u32) -> u32
+    ensures { λ r. ⌜ r ≡ nextTimestamp timestamp ⌝ }
+{
+    if timestamp == 4294967295 {
+        return timestamp;
+    }
+    timestamp + 1
+}
+
+// 0 where a delivery can be counted, 9 at the highest timestamp.
+fn delivery_number(timestamp: u32) -> u32
+    ensures { λ r. ⌜ r ≡ deliveryNumber timestamp ⌝ }
+{
+    if timestamp == 4294967295 { 9 } else { 0 }
+}
+
+// One delivery counted: the timestamp up by 1, the other counts as before; at the highest timestamp 9 and no change.
+#[no_mangle]
+pub extern "C" fn count_delivery(c: &mut Counters) -> u32
+    ensures { λ r. ⌜ (r ≡ deliveryNumber (now (c .entry) .timestamp)) × (now (c .exit) ≡ delivered (now (c .entry))) ⌝ }
+{
+    let timestamp = c.timestamp;
+    c.timestamp = next_timestamp(timestamp);
+    delivery_number(timestamp)
+}
+
+// The number of finished transactions after work; one above the pending ones is not taken.
+fn finished_count(pending: u32, before: u32, finished: u32) -> u32
+    ensures { λ r. ⌜ r ≡ finishedCount pending before finished ⌝ }
+{
+    if pending < finished {
+        return before;
+    }
+    finished
+}
+
+// 0 where so many of the pending transactions can be finished, else 1.
+fn work_number(pending: u32, finished: u32) -> u32
+    ensures { λ r. ⌜ r ≡ workNumber pending finished ⌝ }
+{
+    if pending < finished { 1 } else { 0 }
+}
+
+// Work counted: so many pending transactions are now finished, as work answered. More than are pending gets 1 and no change.
+#[no_mangle]
+pub extern "C" fn count_work(c: &mut Counters, finished: u32) -> u32
+    ensures { λ r. ⌜ (r ≡ workNumber (now (c .entry) .pending) finished) × (now (c .exit) ≡ worked (now (c .entry)) finished) ⌝ }
+{
+    let pending = c.pending;
+    c.finished = finished_count(pending, c.finished, finished);
+    work_number(pending, finished)
+}
+
+// A pending transaction ("job record"): a row of the record area, line by line.
+#[repr(C)]
+pub struct PendingTransaction {
+    pub client: u32,
+    pub sequence: u32,
+    // the program counter ("place")
+    pub counter: u32,
+    pub outcome: u32,
+    pub registers: [i64; 4],
+    // the number of reads, and that of reads and writes: the reads stand first, right behind them the writes
+    pub reads: u32,
+    pub entries: u32,
+    pub objects: [u8; 16],
+    pub values: [i64; 16],
+}
+
+// A transaction that is not begun: its key and zeros.
+fn not_begun(client: u32, sequence: u32) -> PendingTransaction
+    ensures { λ r. ⌜ r ≡ notBegun client sequence ⌝ }
+{
+    let registers = [0i64; 4];
+    let objects = [0u8; 16];
+    let values = [0i64; 16];
+    PendingTransaction {
+        client,
+        sequence,
+        counter: 0,
+        outcome: 0,
+        registers,
+        reads: 0,
+        entries: 0,
+        objects,
+        values,
+    }
+}
+
+// From a place in the list on, each goes back to its start. A place past the last changes nothing.
+#[no_mangle]
+pub extern "C" fn restart_from(rows: &mut [PendingTransaction], place: usize)
+    ensures { λ _. ⌜ now (rows .exit) ≡ restartedFrom place (now (rows .entry)) ⌝ }
+{
+    let mut i = place;
+    while i < rows.len() {
+        let client = rows[i].client;
+        let sequence = rows[i].sequence;
+        rows[i] = not_begun(client, sequence);
+        i += 1;
+    }
+}
