@@ -1,0 +1,19 @@
+//! The proved library from Rust, and what it is tested and measured with.
+pub mod agreement;
+pub mod bodies;
+pub mod body;
+pub mod calls;
+pub mod comparison;
+pub mod coverage;
+pub mod damage;
+pub mod ffi;
+pub mod independent;
+pub mod layout;
+pub mod limits;
+pub mod lists;
+pub mod observation;
+pub mod random;
+pub mod replica;
+pub mod serial;
+pub mod settings;
+pub mod workload;

@@ -1,0 +1,274 @@
+//! What a call came across, by the independent states before and after it: the comparison's coverage.
+
+use crate::body::{decode, Operation, FLAWS, LARGEST_DIVISOR};
+use crate::calls::{Answer, Call};
+use crate::coverage::Coverage;
+use crate::independent::{overlay, State, Transaction};
+use crate::limits::{Limits, LARGEST_BUDGET};
+use crate::replica::{Committed, Executed};
+
+/// Only forged early results lead to it: the walk leaves no first transaction with reads that do not match.
+pub const FIRST_RUN_AGAIN: &str = "final: run again, finished and first in the optimistic order";
+
+pub fn observe(
+    coverage: &mut Coverage,
+    limits: Limits,
+    call: &Call,
+    answer: &Answer,
+    before: Option<&State>,
+    after: Option<&State>,
+) {
+    match answer.number() {
+        Some(number) => coverage.count(&format!("{} {number}", call.name())),
+        None => coverage.count(if answer.refused() { "show body: empty" } else { "show body: bytes" }),
+    }
+    match (call, answer, before, after) {
+        (Call::Open { n, values, stamp }, ..) => opening(coverage, limits, *n, values.len(), *stamp, before.is_some()),
+        (Call::Early { body, .. }, Answer::Number(6), Some(before), _) => {
+            let flaw = decode(body, limits.operations, before.objects.len()).unwrap_err();
+            coverage.count(&format!("early 6: {flaw}"));
+        }
+        (Call::Early { body, .. }, Answer::Number(0), Some(before), Some(after)) => {
+            accepted_body(coverage, limits, body, before.objects.len());
+            coverage.count_if(after.pending.len() == limits.pending, "early: all places taken");
+            let key = after.pending.last().map(|pending| pending.sequence);
+            coverage.count_if(key == Some(u32::MAX), "early: the highest sequence number");
+            coverage.count_if(key == Some(1), "early: the lowest sequence number");
+        }
+        (Call::Work { count }, Answer::Executed(executed), Some(before), Some(after)) if executed.number == 0 => {
+            work(coverage, *count, executed, before, after);
+        }
+        (Call::Final { .. }, Answer::Committed(committed), Some(before), Some(after)) if committed.number == 0 => {
+            let Call::Final { client, sequence } = call else { unreachable!() };
+            commit(coverage, committed, before.place(*client, *sequence).unwrap(), before, after);
+        }
+        _ => {}
+    }
+    let versions = |state: &State| state.objects.iter().any(|versions| versions.len() == limits.readers + 1);
+    coverage.count_if(after.is_some_and(versions), "an object with every version that it can have");
+}
+
+fn opening(coverage: &mut Coverage, limits: Limits, n: u32, given: usize, stamp: u32, again: bool) {
+    let most = limits.objects as u32;
+    if n == 0 {
+        coverage.count("open 2: n 0");
+    } else if n > most {
+        coverage.count_if(n as usize == given, "open 2: n above the limit with n values");
+    } else if n as usize != given {
+        coverage.count(if (n as usize) < given { "open 2: too many values" } else { "open 2: too few values" });
+    } else {
+        coverage.count_if(again, "open: again");
+        coverage.count_if(n == 1, "open: one object");
+        coverage.count_if(n == most, "open: as many objects as can be");
+        coverage.count_if(stamp == u32::MAX, "open: at the highest stamp");
+    }
+    coverage.count_if(n == most + 1, "open 2: n just above the limit");
+}
+
+fn accepted_body(coverage: &mut Coverage, limits: Limits, body: &[u8], n: usize) {
+    let program = decode(body, limits.operations, n).unwrap();
+    let m = program.len();
+    coverage.count_if(m == 1, "body of one operation");
+    coverage.count_if(m == limits.operations, "body of as many operations as can be");
+    for (k, operation) in program.iter().enumerate() {
+        match *operation {
+            Operation::Load(_, object) | Operation::Store(_, object) => {
+                coverage.count_if(object + 1 == n, "body with the last object");
+            }
+            Operation::Skip(_, count) => {
+                coverage.count_if(k + 1 + count == m, "body with a skip that ends exactly past the last");
+            }
+            Operation::Divide(_, divisor) => {
+                coverage.count_if(divisor == 1, "body with divisor 1");
+                coverage.count_if(divisor == LARGEST_DIVISOR, "body with divisor 1,000,000");
+            }
+            Operation::Set(_, constant) => {
+                coverage.count_if([i64::MIN, i64::MAX].contains(&constant), "body with a constant at an end");
+            }
+            _ => {}
+        }
+    }
+}
+
+fn work(coverage: &mut Coverage, count: u32, executed: &Executed, before: &State, after: &State) {
+    let unfinished = after.pending.len() > executed.finished as usize;
+    coverage.count_if(count == LARGEST_BUDGET, "work: the highest count");
+    coverage.count_if(count == 0 && unfinished, "work: none, with transactions unfinished");
+    coverage.count_if(count > 0 && unfinished, "work: stops after its count");
+    coverage.count_if(executed.operations < count, "work: stops sooner, all finished");
+    coverage.count_if(executed.operations == count && count > 0 && !unfinished, "work: exactly to the end of all");
+    let partly = |state: &State| state.pending.iter().any(partly_run);
+    coverage.count_if(partly(before) && executed.operations > 0, "work: goes on with a partly run one");
+    coverage.count_if(partly(after), "work: leaves one partly run");
+    let several = executed.finished as usize > before.finished() + 1;
+    coverage.count_if(several, "work: finishes several");
+    let counters = |state: &State| state.pending.iter().map(|pending| pending.run.program_counter).sum::<usize>();
+    let passed_over = counters(after) - counters(before) > executed.operations as usize;
+    coverage.count_if(passed_over, "work: passes operations over, not counted");
+    for (place, pending) in after.pending.iter().enumerate() {
+        let begun_now = before.pending[place].run.program_counter == 0 && pending.run.program_counter > 0;
+        let earlier = &after.pending[..place];
+        let stored = |object| earlier.iter().any(|earlier| earlier.run.writes.iter().any(|write| write.0 == object));
+        let from_earlier = pending.run.reads.iter().any(|read| stored(read.0));
+        coverage.count_if(begun_now && from_earlier, "work: reads an earlier transaction's store");
+    }
+}
+
+fn partly_run(pending: &Transaction) -> bool {
+    pending.run.outcome.is_none() && pending.run.program_counter > 0
+}
+
+fn commit(coverage: &mut Coverage, committed: &Committed, place: usize, before: &State, after: &State) {
+    let Committed { outcome, kept, stored, stamp, .. } = *committed;
+    let delivered = &before.pending[place];
+    coverage.count(&format!("final: outcome {outcome}, {}", if kept == 1 { "kept" } else { "run again" }));
+    if kept == 1 {
+        coverage.count_if(place > 0, "final: kept out of order");
+        coverage.count_if(place == 0, "final: kept in order");
+    } else if delivered.run.outcome.is_some() {
+        coverage.count("final: run again, finished but a read changed");
+        coverage.count_if(place == 0, FIRST_RUN_AGAIN);
+        coverage.count_if(delivered.run.outcome != Some(outcome), "final: run again, with another outcome than early");
+    } else {
+        coverage.count_if(partly_run(delivered), "final: run again, partly run");
+        coverage.count_if(!partly_run(delivered), "final: run again, not begun");
+    }
+    coverage.count_if(outcome == 0 && stored == 0, "final: done without a store");
+    coverage.count_if(stored > 1, "final: stores several");
+    coverage.count_if(stamp == u32::MAX, "final: takes the highest stamp");
+    coverage.count_if(delivered.sequence == u32::MAX, "final: the highest sequence number");
+    let left = before.pending.len() - 1 - after.pending.len();
+    coverage.count_if(left > 0, "final: lower numbers of the client leave");
+    let same_value = after.objects.iter().any(|versions| match versions.as_slice() {
+        [.., old, new] => new.timestamp == stamp && new.value == old.value,
+        _ => false,
+    });
+    coverage.count_if(same_value, "final: a new version with the old value");
+    let old_held = |versions: &Vec<_>| versions.len() > 1;
+    coverage.count_if(stored > 0 && after.objects.iter().any(old_held), "final: an old version is held for a reader");
+    walk(coverage, stored, before, after);
+}
+
+/// Which begun transactions the walk sent back, and which of them only for one before them.
+fn walk(coverage: &mut Coverage, stored: u32, before: &State, after: &State) {
+    let mut table = after.committed();
+    let mut restarted = 0;
+    let mut stayed = 0;
+    for pending in &after.pending {
+        let earlier = &before.pending[before.place(pending.client, pending.sequence).unwrap()];
+        let begun = earlier.run.program_counter > 0;
+        let back = begun && pending.run.program_counter == 0;
+        restarted += usize::from(back);
+        stayed += usize::from(begun && !back);
+        if back {
+            coverage.count_if(partly_run(earlier), "walk: a partly run one restarts");
+            coverage.count_if(!partly_run(earlier), "walk: a finished one restarts");
+            coverage.count_if(earlier.run.matches(&table), "walk: one restarts only for one before it");
+        }
+        overlay(&mut table, &earlier.run.writes);
+    }
+    coverage.count_if(restarted > 1, "walk: several restart");
+    coverage.count_if(restarted > 0 && stayed > 0, "walk: some stay and the rest restart");
+    let unharmed = stored > 0 && stayed > 0 && restarted == 0;
+    coverage.count_if(unharmed, "walk: all begun ones stay though objects were stored");
+}
+
+/// What each call may answer, refusal 1 of an opening aside: only damaged areas lead to it.
+const NUMBERS: &[(&str, &[u32])] = &[
+    ("open", &[0, 2]),
+    ("early", &[0, 1, 3, 4, 5, 6, 7]),
+    ("work", &[0, 1, 14]),
+    ("final", &[0, 1, 3, 4, 8, 9]),
+    ("open reader", &[0, 1, 10, 11]),
+    ("read", &[0, 1, 10, 12, 13]),
+    ("close", &[0, 1, 10, 12]),
+    ("find", &[0, 1, 3, 8]),
+];
+
+const EVENTS: &[&str] = &[
+    "show body: bytes",
+    "show body: empty",
+    "open 2: n 0",
+    "open 2: n above the limit with n values",
+    "open 2: n just above the limit",
+    "open 2: too few values",
+    "open 2: too many values",
+    "open: again",
+    "open: as many objects as can be",
+    "open: at the highest stamp",
+    "open: one object",
+    "early: all places taken",
+    "early: the highest sequence number",
+    "early: the lowest sequence number",
+    "body of one operation",
+    "body of as many operations as can be",
+    "body with a constant at an end",
+    "body with a skip that ends exactly past the last",
+    "body with divisor 1",
+    "body with divisor 1,000,000",
+    "body with the last object",
+    "work: exactly to the end of all",
+    "work: finishes several",
+    "work: goes on with a partly run one",
+    "work: leaves one partly run",
+    "work: none, with transactions unfinished",
+    "work: passes operations over, not counted",
+    "work: reads an earlier transaction's store",
+    "work: stops after its count",
+    "work: stops sooner, all finished",
+    "work: the highest count",
+    "add",
+    "add that overflows",
+    "divide",
+    "divide a negative value",
+    "divide a negative value that ends in a half",
+    "divide that ends in a half",
+    "fail",
+    "load from the table",
+    "load of a value read before",
+    "load of its own store",
+    "set",
+    "skip not taken",
+    "skip taken",
+    "store",
+    "store of an object stored before",
+    "subtract",
+    "subtract that overflows",
+    "final: outcome 0, kept",
+    "final: outcome 0, run again",
+    "final: outcome 1, kept",
+    "final: outcome 1, run again",
+    "final: outcome 2, kept",
+    "final: outcome 2, run again",
+    "final: a new version with the old value",
+    "final: an old version is held for a reader",
+    "final: done without a store",
+    "final: kept in order",
+    "final: kept out of order",
+    "final: lower numbers of the client leave",
+    "final: run again, finished but a read changed",
+    "final: run again, not begun",
+    "final: run again, partly run",
+    "final: run again, with another outcome than early",
+    "final: stores several",
+    "final: takes the highest stamp",
+    "final: the highest sequence number",
+    "walk: a finished one restarts",
+    "walk: a partly run one restarts",
+    "walk: all begun ones stay though objects were stored",
+    "walk: one restarts only for one before it",
+    "walk: several restart",
+    "walk: some stay and the rest restart",
+    "begun transactions that restarted",
+    "versions that a commit let go",
+    "versions that a close let go",
+    "an object with every version that it can have",
+];
+
+/// All that lists of calls have to come across.
+pub fn required() -> Vec<String> {
+    let answers = |(call, numbers): &(&str, &[u32])| numbers.iter().map(|number| format!("{call} {number}")).collect();
+    let numbers = NUMBERS.iter().flat_map::<Vec<String>, _>(answers);
+    let flaws = FLAWS.iter().map(|flaw| format!("early 6: {flaw}"));
+    numbers.chain(EVENTS.iter().map(|event| event.to_string())).chain(flaws).collect()
+}

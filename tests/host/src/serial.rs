@@ -1,0 +1,181 @@
+//! "The plain table" of document 01: it is fed the calls' arguments only and runs the finally delivered
+//! transactions one after another. What the paper leaves out of the comparison (work's counts, kept or run again) is 0.
+
+use crate::body::{decode, quotient, Operation};
+use crate::limits::{Limits, CLIENTS, LARGEST_BUDGET, REGISTERS};
+use crate::replica::{Committed, Executed, Found, Reading};
+
+#[derive(Clone, Copy, PartialEq, Eq, Debug)]
+pub struct Object {
+    pub value: i64,
+    pub timestamp: u32,
+}
+
+#[derive(Clone, PartialEq, Eq, Debug)]
+pub struct Pending {
+    pub client: u32,
+    pub sequence: u32,
+    pub body: Vec<u8>,
+}
+
+/// Before the first accepted opening there are no objects, and its answers say nothing.
+#[derive(Clone, PartialEq, Eq, Debug)]
+pub struct Serial {
+    pub limits: Limits,
+    pub timestamp: u32,
+    pub objects: Vec<Object>,
+    pub last: [u32; CLIENTS],
+    pub pending: Vec<Pending>,
+    pub readers: Vec<Option<Vec<Object>>>,
+}
+
+impl Serial {
+    pub fn new(limits: Limits) -> Serial {
+        let readers = vec![None; limits.readers];
+        Serial { limits, timestamp: 0, objects: Vec::new(), last: [0; CLIENTS], pending: Vec::new(), readers }
+    }
+
+    pub fn opened(&self) -> bool {
+        !self.objects.is_empty()
+    }
+
+    fn place(&self, client: u32, sequence: u32) -> Option<usize> {
+        self.pending.iter().position(|pending| pending.client == client && pending.sequence == sequence)
+    }
+
+    pub fn open(&mut self, n: u32, values: &[i64], stamp: u32) -> u32 {
+        if n == 0 || n > self.limits.objects as u32 || values.len() as u64 != u64::from(n) {
+            return 2;
+        }
+        *self = Serial::new(self.limits);
+        self.timestamp = stamp;
+        self.objects = values.iter().map(|&value| Object { value, timestamp: stamp }).collect();
+        0
+    }
+
+    pub fn early(&mut self, client: u32, sequence: u32, body: &[u8]) -> u32 {
+        if client > 15 {
+            3
+        } else if sequence <= self.last[client as usize] {
+            4
+        } else if self.place(client, sequence).is_some() {
+            5
+        } else if decode(body, self.limits.operations, self.objects.len()).is_err() {
+            6
+        } else if self.pending.len() == self.limits.pending {
+            7
+        } else {
+            self.pending.push(Pending { client, sequence, body: body.to_vec() });
+            0
+        }
+    }
+
+    pub fn work(&mut self, count: u32) -> Executed {
+        Executed { number: if count > LARGEST_BUDGET { 14 } else { 0 }, operations: 0, finished: 0 }
+    }
+
+    pub fn deliver_final(&mut self, client: u32, sequence: u32) -> Committed {
+        let refused = |number| Committed { number, outcome: 0, kept: 0, stamp: 0, stored: 0 };
+        if client > 15 {
+            return refused(3);
+        }
+        if sequence <= self.last[client as usize] {
+            return refused(4);
+        }
+        let Some(place) = self.place(client, sequence) else { return refused(8) };
+        if self.timestamp == u32::MAX {
+            return refused(9);
+        }
+        let (outcome, table) = self.execute(&self.pending[place].body);
+        self.timestamp += 1;
+        let mut stored = 0;
+        for (object, value) in self.objects.iter_mut().zip(table) {
+            if let (0, Some(value)) = (outcome, value) {
+                *object = Object { value, timestamp: self.timestamp };
+                stored += 1;
+            }
+        }
+        self.last[client as usize] = sequence;
+        self.pending.retain(|pending| pending.client != client || pending.sequence > sequence);
+        Committed { number: 0, outcome, kept: 0, stamp: self.timestamp, stored }
+    }
+
+    /// The outcome, and the last value given to each object.
+    fn execute(&self, body: &[u8]) -> (u32, Vec<Option<i64>>) {
+        let program = decode(body, self.limits.operations, self.objects.len()).unwrap();
+        let mut registers = [0i64; REGISTERS];
+        let mut table = vec![None; self.objects.len()];
+        let mut next = 0;
+        while next < program.len() {
+            let operation = program[next];
+            next += 1;
+            match operation {
+                Operation::Load(r, o) => registers[r] = table[o].unwrap_or(self.objects[o].value),
+                Operation::Store(r, o) => table[o] = Some(registers[r]),
+                Operation::Set(r, constant) => registers[r] = constant,
+                Operation::Add(..) | Operation::Subtract(..) => match sum(&registers, operation) {
+                    Ok((r, value)) => registers[r] = value,
+                    Err(_) => return (2, table),
+                },
+                Operation::Skip(r, count) => next += if registers[r] < 0 { count } else { 0 },
+                Operation::Fail => return (1, table),
+                Operation::Divide(r, divisor) => registers[r] = quotient(registers[r], divisor),
+            }
+        }
+        (0, table)
+    }
+
+    pub fn open_reader(&mut self, reader: u32) -> u32 {
+        match self.readers.get(reader as usize) {
+            None => 10,
+            Some(Some(_)) => 11,
+            Some(None) => {
+                self.readers[reader as usize] = Some(self.objects.clone());
+                0
+            }
+        }
+    }
+
+    pub fn read(&self, reader: u32, object: u32) -> Reading {
+        let refused = |number| Reading { number, value: 0 };
+        let Some(reader) = self.readers.get(reader as usize) else { return refused(10) };
+        let Some(copy) = reader else { return refused(12) };
+        let Some(object) = copy.get(object as usize) else { return refused(13) };
+        Reading { number: 0, value: object.value }
+    }
+
+    pub fn close_reader(&mut self, reader: u32) -> u32 {
+        match self.readers.get(reader as usize) {
+            None => 10,
+            Some(None) => 12,
+            Some(Some(_)) => {
+                self.readers[reader as usize] = None;
+                0
+            }
+        }
+    }
+
+    pub fn find(&self, client: u32, sequence: u32) -> Found {
+        let refused = |number| Found { number, place: 0, length: 0 };
+        if client > 15 {
+            return refused(3);
+        }
+        let Some(place) = self.place(client, sequence) else { return refused(8) };
+        Found { number: 0, place: place as u32, length: self.pending[place].body.len() as u32 }
+    }
+
+    pub fn show_body(&self, client: u32, sequence: u32) -> &[u8] {
+        self.place(client, sequence).map_or(&[], |place| &self.pending[place].body)
+    }
+}
+
+/// An add or subtract in 128 bits: an error where it leaves 64.
+fn sum(registers: &[i64; REGISTERS], operation: Operation) -> Result<(usize, i64), std::num::TryFromIntError> {
+    let (to, by, sign) = match operation {
+        Operation::Add(to, by) => (to, by, 1),
+        Operation::Subtract(to, by) => (to, by, -1),
+        _ => unreachable!(),
+    };
+    let result = i128::from(registers[to]) + sign * i128::from(registers[by]);
+    Ok((to, i64::try_from(result)?))
+}

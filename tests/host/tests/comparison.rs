@@ -1,0 +1,81 @@
+//! Random lists of calls: the proved library, the independent implementation and the plain table, answers and bytes.
+
+use jobstore::body::{encode, Operation};
+use jobstore::calls::{Answer, Call};
+use jobstore::comparison::{compare_lists, Comparison};
+use jobstore::independent::Independent;
+use jobstore::layout::{parse, print};
+use jobstore::limits::SMALL;
+use jobstore::lists::Mix;
+use jobstore::observation::required;
+use jobstore::perform;
+use jobstore::random::Random;
+use jobstore::replica::{Committed, Executed, Reading, Replica};
+use jobstore::serial::Serial;
+use jobstore::settings::{lists, seed};
+use Operation::{Add, Load, Set, Store};
+
+#[test]
+fn random_lists() {
+    let coverage = compare_lists(seed(), lists(3000)).unwrap_or_else(|difference| panic!("{difference}"));
+    println!("from seed {}\n{coverage}", seed());
+    assert_eq!(coverage.missing(required()), Vec::<String>::new(), "too few lists, or a mix that misses something");
+}
+
+/// Objects 10, 20, 30; A, B and C delivered early and worked on.
+fn depot() -> Comparison {
+    let mut all = Comparison::new(Replica::new());
+    let bodies: [&[Operation]; 3] =
+        [&[Load(0, 0), Set(1, 5), Add(0, 1), Store(0, 0)], &[Load(0, 1), Store(0, 2)], &[Load(0, 0), Store(0, 1)]];
+    answers(&mut all, Call::Open { n: 3, values: vec![10, 20, 30], stamp: 0 }, Answer::Number(0));
+    for (client, body) in (1..).zip(bodies) {
+        answers(&mut all, Call::Early { client, sequence: 1, body: encode(body) }, Answer::Number(0));
+    }
+    let executed = Executed { number: 0, operations: 8, finished: 3 };
+    answers(&mut all, Call::Work { count: 100 }, Answer::Executed(executed));
+    all
+}
+
+/// The answer of all three is the paper's.
+fn answers(all: &mut Comparison, call: Call, paper: Answer) {
+    assert_eq!(all.apply(&call), Ok(paper), "{call:?}");
+}
+
+/// Final deliveries by client, each with kept or not, and the table that they leave.
+fn delivers(finals: [(u32, u32); 3], table: [i64; 3]) {
+    let mut all = depot();
+    for (stamp, (client, kept)) in (1..).zip(finals) {
+        let committed = Committed { number: 0, outcome: 0, kept, stamp, stored: 1 };
+        answers(&mut all, Call::Final { client, sequence: 1 }, Answer::Committed(committed));
+    }
+    answers(&mut all, Call::OpenReader { reader: 6 }, Answer::Number(0));
+    for (object, value) in (0..).zip(table) {
+        answers(&mut all, Call::Read { reader: 6, object }, Answer::Reading(Reading { number: 0, value }));
+    }
+}
+
+#[test]
+fn the_small_depot_on_all_three() {
+    delivers([(1, 1), (2, 1), (3, 1)], [15, 15, 20]);
+    delivers([(3, 0), (1, 1), (2, 0)], [15, 10, 10]);
+    delivers([(2, 1), (1, 1), (3, 1)], [15, 15, 20]);
+}
+
+/// The other kind of limits, without the library: the method, the plain table and the layout among themselves.
+#[test]
+fn small_limits() {
+    for list in 0..300 {
+        let mut random = Random::new(seed().wrapping_add(list));
+        let mix = Mix::new(&mut random, SMALL);
+        let (mut independent, mut serial) = (Independent::new(SMALL), Serial::new(SMALL));
+        let mut call = mix.opening(&mut random);
+        for _ in 0..100 {
+            let (answer, plain): (Answer, Answer) = (perform!(independent, &call), perform!(serial, &call));
+            assert_eq!(answer.seen(), plain, "seed {}: {call:?}", seed().wrapping_add(list));
+            let state = independent.state.as_ref().unwrap();
+            let (record, bodies) = print(SMALL, state);
+            assert_eq!(parse(SMALL, &record, &bodies).as_ref(), Ok(state));
+            call = mix.call(&mut random, Some(state));
+        }
+    }
+}
