@@ -3,7 +3,6 @@
 use model::Delivery;
 use model::Execution;
 use model::Finding;
-use model::Limits;
 use model::Reading;
 use model::Reply;
 ghost use mathlib.Core.Path.{_≡_};
@@ -153,13 +152,7 @@ fn finding_part(f: Finding) -> Part
 pub extern "C" fn jobstore_record_length() -> u32
     ensures { λ r. ⌜ r ≡ record-length standard ⌝ }
 {
-    let l = Limits {
-        objects: 128,
-        pending: 32,
-        readers: 7,
-        operations: 16,
-    };
-    layout::record_length(l) as u32
+    layout::record_length(replica::STANDARD) as u32
 }
 
 // The length of the body area in bytes.
@@ -167,13 +160,7 @@ pub extern "C" fn jobstore_record_length() -> u32
 pub extern "C" fn jobstore_bodies_length() -> u32
     ensures { λ r. ⌜ r ≡ bodies-length standard ⌝ }
 {
-    let l = Limits {
-        objects: 128,
-        pending: 32,
-        readers: 7,
-        operations: 16,
-    };
-    layout::bodies_length(l) as u32
+    layout::bodies_length(replica::STANDARD) as u32
 }
 
 #[no_mangle]

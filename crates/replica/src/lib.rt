@@ -14,17 +14,19 @@ ghost use Rattle.model.specs.Answers.{reply, execution, delivery, reading, find
 ghost use Rattle.queue.specs.Shown.{Shown};
 ghost use Rattle.replica.specs.Contract.{Supported, Met};
 
+// The limits of the standard kind ("cabinet unit").
+pub const STANDARD: Limits = Limits {
+    objects: 128,
+    pending: 32,
+    readers: 7,
+    operations: 16,
+};
+
 // The shape check at the standard limits. It is called in this one place, so that the compiler makes one copy with the limits folded in.
 fn standard_shape(records: &[u8], bodies: &[u8]) -> bool
     ensures { λ r. ⌜ r ≡ fit standard (now (records .entry), now (bodies .entry)) ⌝ }
 {
-    let l = Limits {
-        objects: 128,
-        pending: 32,
-        readers: 7,
-        operations: 16,
-    };
-    shape::check(records, bodies, l)
+    shape::check(records, bodies, STANDARD)
 }
 
 fn open_within(
@@ -62,13 +64,7 @@ fn open_within(
 pub fn open(records: &mut [u8], bodies: &mut [u8], n: u32, values: &[i64], timestamp: u32) -> Reply
     ensures { λ r. ⌜ Met standard (opening n (now (values .entry)) timestamp) (now (records .entry), now (bodies .entry)) (reply r) (now (records .exit), now (bodies .exit)) ⌝ }
 {
-    let l = Limits {
-        objects: 128,
-        pending: 32,
-        readers: 7,
-        operations: 16,
-    };
-    open_within(records, bodies, l, n, values, timestamp)
+    open_within(records, bodies, STANDARD, n, values, timestamp)
 }
 
 fn deliver_optimistic_within(
@@ -101,14 +97,8 @@ pub fn deliver_optimistic(
 ) -> Reply
     ensures { λ r. ⌜ Met standard (optimistic client sequence (now (body .entry))) (now (records .entry), now (bodies .entry)) (reply r) (now (records .exit), now (bodies .exit)) ⌝ }
 {
-    let l = Limits {
-        objects: 128,
-        pending: 32,
-        readers: 7,
-        operations: 16,
-    };
     let shaped = standard_shape(records, bodies);
-    deliver_optimistic_within(records, bodies, l, shaped, client, sequence, body)
+    deliver_optimistic_within(records, bodies, STANDARD, shaped, client, sequence, body)
 }
 
 fn open_reader_within(
@@ -133,14 +123,8 @@ fn open_reader_within(
 pub fn open_reader(records: &mut [u8], bodies: &[u8], reader: u32) -> Reply
     ensures { λ r. ⌜ Met standard (open-reader reader) (now (records .entry), now (bodies .entry)) (reply r) (now (records .exit), now (bodies .entry)) ⌝ }
 {
-    let l = Limits {
-        objects: 128,
-        pending: 32,
-        readers: 7,
-        operations: 16,
-    };
     let shaped = standard_shape(records, bodies);
-    open_reader_within(records, bodies, l, shaped, reader)
+    open_reader_within(records, bodies, STANDARD, shaped, reader)
 }
 
 fn read_within(
@@ -166,14 +150,8 @@ fn read_within(
 pub fn read(records: &[u8], bodies: &[u8], reader: u32, object: u32) -> Reading
     ensures { λ r. ⌜ Met standard (read-call reader object) (now (records .entry), now (bodies .entry)) (reading r) (now (records .entry), now (bodies .entry)) ⌝ }
 {
-    let l = Limits {
-        objects: 128,
-        pending: 32,
-        readers: 7,
-        operations: 16,
-    };
     let shaped = standard_shape(records, bodies);
-    read_within(records, bodies, l, shaped, reader, object)
+    read_within(records, bodies, STANDARD, shaped, reader, object)
 }
 
 fn close_reader_within(
@@ -198,14 +176,8 @@ fn close_reader_within(
 pub fn close_reader(records: &mut [u8], bodies: &[u8], reader: u32) -> Reply
     ensures { λ r. ⌜ Met standard (close-reader reader) (now (records .entry), now (bodies .entry)) (reply r) (now (records .exit), now (bodies .entry)) ⌝ }
 {
-    let l = Limits {
-        objects: 128,
-        pending: 32,
-        readers: 7,
-        operations: 16,
-    };
     let shaped = standard_shape(records, bodies);
-    close_reader_within(records, bodies, l, shaped, reader)
+    close_reader_within(records, bodies, STANDARD, shaped, reader)
 }
 
 fn find_within(
@@ -231,14 +203,8 @@ fn find_within(
 pub fn find(records: &[u8], bodies: &[u8], client: u32, sequence: u32) -> Finding
     ensures { λ r. ⌜ Met standard (find-call client sequence) (now (records .entry), now (bodies .entry)) (finding r) (now (records .entry), now (bodies .entry)) ⌝ }
 {
-    let l = Limits {
-        objects: 128,
-        pending: 32,
-        readers: 7,
-        operations: 16,
-    };
     let shaped = standard_shape(records, bodies);
-    find_within(records, bodies, l, shaped, client, sequence)
+    find_within(records, bodies, STANDARD, shaped, client, sequence)
 }
 
 fn show_body_within<'a>(
@@ -264,14 +230,8 @@ fn show_body_within<'a>(
 pub fn show_body<'a>(records: &[u8], bodies: &'a [u8], client: u32, sequence: u32) -> &'a [u8]
     ensures { λ r. ⌜ Shown standard (now (records .entry)) (bodies .entry) r client sequence ⌝ }
 {
-    let l = Limits {
-        objects: 128,
-        pending: 32,
-        readers: 7,
-        operations: 16,
-    };
     let shaped = standard_shape(records, bodies);
-    show_body_within(records, bodies, l, shaped, client, sequence)
+    show_body_within(records, bodies, STANDARD, shaped, client, sequence)
 }
 
 fn execute_within(
@@ -296,14 +256,8 @@ fn execute_within(
 pub fn execute(records: &mut [u8], bodies: &[u8], count: u32) -> Execution
     ensures { λ r. ⌜ Met standard (execute-call count) (now (records .entry), now (bodies .entry)) (execution r) (now (records .exit), now (bodies .entry)) ⌝ }
 {
-    let l = Limits {
-        objects: 128,
-        pending: 32,
-        readers: 7,
-        operations: 16,
-    };
     let shaped = standard_shape(records, bodies);
-    execute_within(records, bodies, l, shaped, count)
+    execute_within(records, bodies, STANDARD, shaped, count)
 }
 
 fn deliver_final_within(
@@ -329,12 +283,6 @@ fn deliver_final_within(
 pub fn deliver_final(records: &mut [u8], bodies: &mut [u8], client: u32, sequence: u32) -> Delivery
     ensures { λ r. ⌜ Met standard (final client sequence) (now (records .entry), now (bodies .entry)) (delivery r) (now (records .exit), now (bodies .exit)) ⌝ }
 {
-    let l = Limits {
-        objects: 128,
-        pending: 32,
-        readers: 7,
-        operations: 16,
-    };
     let shaped = standard_shape(records, bodies);
-    deliver_final_within(records, bodies, l, shaped, client, sequence)
+    deliver_final_within(records, bodies, STANDARD, shaped, client, sequence)
 }
