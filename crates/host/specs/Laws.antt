@@ -1,4 +1,4 @@
--- Restarting from a place on, one transaction at a time: what the loop of `restart_from` goes by. Assumes nothing.
+-- Restarting from a place on, one transaction at a time: what the loop of `jobstore_restart_from` goes by. Assumes nothing.
 use mathlib.Core.Path.{_≡_, refl, ap, _∙_}
 use mathlib.Core.List.{List, [], _∷_, _++_, map}
 use Prim.Native.Nat.{ℕ, zero, suc, _+_, _<_, _≤_}

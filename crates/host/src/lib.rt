@@ -32,7 +32,7 @@ fn delivery_number(timestamp: u32) -> u32
 
 // One delivery counted: the timestamp up by 1, the other counts as before; at the highest timestamp 9 and no change.
 #[no_mangle]
-pub extern "C" fn count_delivery(c: &mut Counters) -> u32
+pub extern "C" fn jobstore_count_delivery(c: &mut Counters) -> u32
     ensures { λ r. ⌜ (r ≡ deliveryNumber (now (c .entry) .timestamp)) × (now (c .exit) ≡ delivered (now (c .entry))) ⌝ }
 {
     let timestamp = c.timestamp;
@@ -59,7 +59,7 @@ fn work_number(pending: u32, finished: u32) -> u32
 
 // Work counted: so many pending transactions are now finished, as work answered. More than are pending gets 1 and no change.
 #[no_mangle]
-pub extern "C" fn count_work(c: &mut Counters, finished: u32) -> u32
+pub extern "C" fn jobstore_count_work(c: &mut Counters, finished: u32) -> u32
     ensures { λ r. ⌜ (r ≡ workNumber (now (c .entry) .pending) finished) × (now (c .exit) ≡ worked (now (c .entry)) finished) ⌝ }
 {
     let pending = c.pending;
@@ -105,7 +105,7 @@ fn not_begun(client: u32, sequence: u32) -> PendingTransaction
 
 // From a place in the list on, each goes back to its start. A place past the last changes nothing.
 #[no_mangle]
-pub extern "C" fn restart_from(rows: &mut [PendingTransaction], place: usize)
+pub extern "C" fn jobstore_restart_from(rows: &mut [PendingTransaction], place: usize)
     ensures { λ _. ⌜ now (rows .exit) ≡ restartedFrom place (now (rows .entry)) ⌝ }
 {
     let mut i = place;

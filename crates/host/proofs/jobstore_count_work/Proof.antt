@@ -1,4 +1,4 @@
--- `host::count_work` meets its contract: a walk of its MIR, by hand. The borrow is opened, two counts are read and go to `finished_count`, what that returned is written,
+-- `host::jobstore_count_work` meets its contract: a walk of its MIR, by hand. The borrow is opened, two counts are read and go to `finished_count`, what that returned is written,
 -- `work_number` is called, and the borrow is closed at the record with the new count. All that the proof knows of the two is that each meets its contract.
 -- Assumes nothing.
 use mathlib.Core.Path.{_≡_, refl, ap}
@@ -51,10 +51,10 @@ use Rattle.host.proofs.work_number as work-number
 use Rattle.host.proofs.work_number.Symbol as work-number-def
 use Rattle.host.proofs.work_number.Symbol.{name as #host·work-number}
 use Rattle.host.proofs.work_number.Met as work-number-thm
-use Rattle.host.proofs.count_work.Key.{name as #host·count-work}
-use Rattle.host.proofs.count_work as this
-use Rattle.host.proofs.count_work.Statement as stated
-use Rattle.host.proofs.count_work.Code as code
+use Rattle.host.proofs.jobstore_count_work.Key.{name as #host·jobstore-count-work}
+use Rattle.host.proofs.jobstore_count_work as this
+use Rattle.host.proofs.jobstore_count_work.Statement as stated
+use Rattle.host.proofs.jobstore_count_work.Code as code
 
 abbrev Arg : Type 0
 Arg = RefT Counters × (ℕ × Unit {0})
@@ -172,11 +172,11 @@ meets : {M : Type 1} (𝓤 : URA M) (H : Heap 𝓤) (A : Atoms 𝓤) → Given �
 meets 𝓤 H A W at-mem run 𝓣 ka kc = walk-meets 𝓤 H A this.ended stayed W (goes-ref 𝓤 H A W 1 0 tt (plain (λ _. T.the-row)), (goes-none 𝓤 H A W 1 (λ _. u32) yes (λ κs x f. refl), tt)) (this.clauses 𝓤 H A at-mem run)
     (WpFn 𝓤 H (𝓣 .C) (𝓣 .Λ) code.function) (WpFn-mono 𝓤 H (W .laws) 𝓣 code.function) (walks 𝓤 H A W at-mem run (𝓣 .C) (𝓣 .Λ) (fmOf 𝓤 H (W .laws) 𝓣) ka kc)
 
-pub count-work-spec : {M : Type 1} → stated.statement M
+pub jobstore-count-work-spec : {M : Type 1} → stated.statement M
 unfolding code.routine tablesOf
-count-work-spec 𝓤 H 𝓜 𝓖 𝓡 =
+jobstore-count-work-spec 𝓤 H 𝓜 𝓖 𝓡 =
     entered 𝓤 H (tripleOf 𝓤 H (𝓖 .A) this.signature (this.spec 𝓤 H (𝓖 .A) (𝓜 .mem) (𝓡 .run)))
-    (tables 𝓤 H 𝓜 𝓡 code.env .C) (tables 𝓤 H 𝓜 𝓡 code.env .Λ) #host·count-work code.function (code.unfolded 𝓤 H 𝓜 𝓡)
+    (tables 𝓤 H 𝓜 𝓡 code.env .C) (tables 𝓤 H 𝓜 𝓡 code.env .Λ) #host·jobstore-count-work code.function (code.unfolded 𝓤 H 𝓜 𝓡)
     (meets 𝓤 H (𝓖 .A) (givenOf 𝓤 H 𝓜 𝓖) (𝓜 .mem) (𝓡 .run) (tablesOf 𝓤 H 𝓜 (tables 𝓤 H 𝓜 𝓡 code.env))
     (cited 𝓤 H (After 𝓤 H (𝓖 .A) (𝓜 .mem) (𝓡 .run)) 𝓜 𝓡 code.env #host·finished-count finished-count-def.routine code.calls-host·finished-count (finished-count-thm.met 𝓤 H 𝓜 𝓖 𝓡))
     (cited 𝓤 H (Number 𝓤 H (𝓖 .A) (𝓜 .mem) (𝓡 .run)) 𝓜 𝓡 code.env #host·work-number work-number-def.routine code.calls-host·work-number (work-number-thm.met 𝓤 H 𝓜 𝓖 𝓡)))

@@ -1,4 +1,4 @@
--- `host::count_delivery` meets its contract: a walk of its MIR, by hand. The borrow is opened, the timestamp is read and goes to `next_timestamp`, what that returned is written,
+-- `host::jobstore_count_delivery` meets its contract: a walk of its MIR, by hand. The borrow is opened, the timestamp is read and goes to `next_timestamp`, what that returned is written,
 -- `delivery_number` is called, and the borrow is closed at the record with the new timestamp. All that the proof knows of the two is that each meets its contract.
 -- Assumes nothing.
 use mathlib.Core.Path.{_≡_, refl, ap}
@@ -50,10 +50,10 @@ use Rattle.host.proofs.delivery_number as delivery-number
 use Rattle.host.proofs.delivery_number.Symbol as delivery-number-def
 use Rattle.host.proofs.delivery_number.Symbol.{name as #host·delivery-number}
 use Rattle.host.proofs.delivery_number.Met as delivery-number-thm
-use Rattle.host.proofs.count_delivery.Key.{name as #host·count-delivery}
-use Rattle.host.proofs.count_delivery as this
-use Rattle.host.proofs.count_delivery.Statement as stated
-use Rattle.host.proofs.count_delivery.Code as code
+use Rattle.host.proofs.jobstore_count_delivery.Key.{name as #host·jobstore-count-delivery}
+use Rattle.host.proofs.jobstore_count_delivery as this
+use Rattle.host.proofs.jobstore_count_delivery.Statement as stated
+use Rattle.host.proofs.jobstore_count_delivery.Code as code
 
 abbrev Arg : Type 0
 Arg = RefT Counters × Unit {0}
@@ -165,11 +165,11 @@ meets : {M : Type 1} (𝓤 : URA M) (H : Heap 𝓤) (A : Atoms 𝓤) → Given �
 meets 𝓤 H A W at-mem run 𝓣 ka kc = walk-meets 𝓤 H A this.ended stayed W (goes-ref 𝓤 H A W 1 0 tt (plain (λ _. T.the-row)), tt) (this.clauses 𝓤 H A at-mem run)
     (WpFn 𝓤 H (𝓣 .C) (𝓣 .Λ) code.function) (WpFn-mono 𝓤 H (W .laws) 𝓣 code.function) (walks 𝓤 H A W at-mem run (𝓣 .C) (𝓣 .Λ) (fmOf 𝓤 H (W .laws) 𝓣) ka kc)
 
-pub count-delivery-spec : {M : Type 1} → stated.statement M
+pub jobstore-count-delivery-spec : {M : Type 1} → stated.statement M
 unfolding code.routine tablesOf
-count-delivery-spec 𝓤 H 𝓜 𝓖 𝓡 =
+jobstore-count-delivery-spec 𝓤 H 𝓜 𝓖 𝓡 =
     entered 𝓤 H (tripleOf 𝓤 H (𝓖 .A) this.signature (this.spec 𝓤 H (𝓖 .A) (𝓜 .mem) (𝓡 .run)))
-    (tables 𝓤 H 𝓜 𝓡 code.env .C) (tables 𝓤 H 𝓜 𝓡 code.env .Λ) #host·count-delivery code.function (code.unfolded 𝓤 H 𝓜 𝓡)
+    (tables 𝓤 H 𝓜 𝓡 code.env .C) (tables 𝓤 H 𝓜 𝓡 code.env .Λ) #host·jobstore-count-delivery code.function (code.unfolded 𝓤 H 𝓜 𝓡)
     (meets 𝓤 H (𝓖 .A) (givenOf 𝓤 H 𝓜 𝓖) (𝓜 .mem) (𝓡 .run) (tablesOf 𝓤 H 𝓜 (tables 𝓤 H 𝓜 𝓡 code.env))
     (cited 𝓤 H (After 𝓤 H (𝓖 .A) (𝓜 .mem) (𝓡 .run)) 𝓜 𝓡 code.env #host·next-timestamp next-timestamp-def.routine code.calls-host·next-timestamp (next-timestamp-thm.met 𝓤 H 𝓜 𝓖 𝓡))
     (cited 𝓤 H (Number 𝓤 H (𝓖 .A) (𝓜 .mem) (𝓡 .run)) 𝓜 𝓡 code.env #host·delivery-number delivery-number-def.routine code.calls-host·delivery-number (delivery-number-thm.met 𝓤 H 𝓜 𝓖 𝓡)))

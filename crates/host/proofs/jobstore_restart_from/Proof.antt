@@ -1,4 +1,4 @@
--- `host::restart_from` meets its contract: a walk of its MIR, by hand. The borrow is opened once, before the loop, and closed once, after it. In a turn the element at i is taken out of the slice,
+-- `host::jobstore_restart_from` meets its contract: a walk of its MIR, by hand. The borrow is opened once, before the loop, and closed once, after it. In a turn the element at i is taken out of the slice,
 -- two of its fields are read and go to `not_begun`, and what that returned is stored over it. The invariant: of the list ys in memory, restarting all from i on gives what is asked.
 -- Assumes nothing.
 use mathlib.Core.Path.{_≡_, refl, sym, _∙_, ap, subst}
@@ -56,11 +56,11 @@ use Rattle.host.proofs.not_begun as not-begun
 use Rattle.host.proofs.not_begun.Symbol as not-begun-def
 use Rattle.host.proofs.not_begun.Symbol.{name as #host·not-begun}
 use Rattle.host.proofs.not_begun.Met as not-begun-thm
-use Rattle.host.proofs.restart_from.Key.{name as #host·restart-from}
-use Rattle.host.proofs.restart_from as this
-use Rattle.host.proofs.restart_from.Statement as stated
-use Rattle.host.proofs.restart_from.Code as code
-use Rattle.host.proofs.restart_from.Code.Mir as body
+use Rattle.host.proofs.jobstore_restart_from.Key.{name as #host·jobstore-restart-from}
+use Rattle.host.proofs.jobstore_restart_from as this
+use Rattle.host.proofs.jobstore_restart_from.Statement as stated
+use Rattle.host.proofs.jobstore_restart_from.Code as code
+use Rattle.host.proofs.jobstore_restart_from.Code.Mir as body
 
 abbrev R : RattleType
 R = T.the-row
@@ -278,10 +278,10 @@ meets : {M : Type 1} (𝓤 : URA M) (H : Heap 𝓤) (A : Atoms 𝓤) → Given �
 meets 𝓤 H A W at-mem run 𝓣 known = walk-meets 𝓤 H A this.ended stayed W (goes-slice 𝓤 H A W 1 0 tt (plain (λ _. R)), (goes-none 𝓤 H A W 1 (λ _. usize) yes (λ κs x f. refl), tt)) (this.clauses 𝓤 H A at-mem run)
     (WpFn 𝓤 H (𝓣 .C) (𝓣 .Λ) code.function) (WpFn-mono 𝓤 H (W .laws) 𝓣 code.function) (walks 𝓤 H A W at-mem run 𝓣 known)
 
-pub restart-from-spec : {M : Type 1} → stated.statement M
+pub jobstore-restart-from-spec : {M : Type 1} → stated.statement M
 unfolding code.routine tablesOf
-restart-from-spec 𝓤 H 𝓜 𝓖 𝓡 =
+jobstore-restart-from-spec 𝓤 H 𝓜 𝓖 𝓡 =
     entered 𝓤 H (tripleOf 𝓤 H (𝓖 .A) this.signature (this.spec 𝓤 H (𝓖 .A) (𝓜 .mem) (𝓡 .run)))
-    (tables 𝓤 H 𝓜 𝓡 code.env .C) (tables 𝓤 H 𝓜 𝓡 code.env .Λ) #host·restart-from code.function (code.unfolded 𝓤 H 𝓜 𝓡)
+    (tables 𝓤 H 𝓜 𝓡 code.env .C) (tables 𝓤 H 𝓜 𝓡 code.env .Λ) #host·jobstore-restart-from code.function (code.unfolded 𝓤 H 𝓜 𝓡)
     (meets 𝓤 H (𝓖 .A) (givenOf 𝓤 H 𝓜 𝓖) (𝓜 .mem) (𝓡 .run) (tablesOf 𝓤 H 𝓜 (tables 𝓤 H 𝓜 𝓡 code.env))
     (cited 𝓤 H (Start 𝓤 H (𝓖 .A) (𝓜 .mem) (𝓡 .run)) 𝓜 𝓡 code.env #host·not-begun not-begun-def.routine code.calls-host·not-begun (not-begun-thm.met 𝓤 H 𝓜 𝓖 𝓡)))
