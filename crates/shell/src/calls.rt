@@ -1,0 +1,181 @@
+// The nine calls: a command's arguments, the call, and its answer's text.
+use crate::arguments;
+use crate::arguments::Pair;
+use crate::arguments::Single;
+use crate::arguments::ValueList;
+use crate::commands::Answer;
+use crate::faults::Fault;
+use crate::faults::Name;
+use crate::output;
+use text::buffer;
+use text::hexadecimal;
+use text::hexadecimal::Digits;
+use text::words;
+ghost use mathlib.Core.Path.{_≡_};
+ghost use lib.ListN.{take};
+
+// The first n values, or all where there are fewer.
+fn first<'a>(values: &'a [i64], n: usize) -> &'a [i64]
+    ensures { λ r. ⌜ now r ≡ take n (now (values .entry)) ⌝ }
+{
+    if n < values.len() {
+        &values[..n]
+    } else {
+        values
+    }
+}
+
+fn open_into(
+    records: &mut [u8],
+    bodies: &mut [u8],
+    line: &[u8],
+    at: usize,
+    values: &mut [i64],
+    out: &mut [u8],
+) -> Answer {
+    match arguments::two_numbers(line, at, Name::Objects, Name::Stamp) {
+        Pair::Are(n, stamp, behind) => match arguments::values(line, behind, values) {
+            ValueList::Count(count) => {
+                let r = replica::open(records, bodies, n, first(values, count), stamp);
+                Answer::Line(output::put_reply(out, r))
+            }
+            ValueList::Wrong(fault) => Answer::Wrong(fault),
+        },
+        Pair::Wrong(fault) => Answer::Wrong(fault),
+    }
+}
+
+pub fn open(
+    records: &mut [u8],
+    bodies: &mut [u8],
+    line: &[u8],
+    at: usize,
+    out: &mut [u8],
+) -> Answer {
+    // more than a line can hold
+    let mut values: [i64; 2048] = [0; 2048];
+    open_into(records, bodies, line, at, &mut values, out)
+}
+
+// The bytes of a body: pairs of digits, or - for none.
+fn body_bytes(word: &[u8], body: &mut [u8]) -> Digits {
+    if word.len() == 0 {
+        return Digits::Malformed;
+    }
+    if check::same(word, b"-") {
+        return Digits::Bytes(0);
+    }
+    hexadecimal::parse(word, body)
+}
+
+fn early_into(
+    records: &mut [u8],
+    bodies: &mut [u8],
+    line: &[u8],
+    at: usize,
+    body: &mut [u8],
+    out: &mut [u8],
+) -> Answer {
+    match arguments::two_numbers(line, at, Name::Client, Name::Sequence) {
+        Pair::Are(client, sequence, behind) => {
+            let w = words::next(line, behind);
+            let from = w.from;
+            let to = w.to;
+            let Digits::Bytes(n) = body_bytes(&line[from..to], body) else {
+                return Answer::Wrong(Fault::Body);
+            };
+            if words::ended(line, to) {
+                let b = buffer::front(body, n);
+                let r = replica::deliver_optimistic(records, bodies, client, sequence, b);
+                Answer::Line(output::put_reply(out, r))
+            } else {
+                Answer::Wrong(Fault::TooManyWords)
+            }
+        }
+        Pair::Wrong(fault) => Answer::Wrong(fault),
+    }
+}
+
+pub fn early(
+    records: &mut [u8],
+    bodies: &mut [u8],
+    line: &[u8],
+    at: usize,
+    out: &mut [u8],
+) -> Answer {
+    // more than a line can hold
+    let mut body = [0u8; 2048];
+    early_into(records, bodies, line, at, &mut body, out)
+}
+
+pub fn work(records: &mut [u8], bodies: &[u8], line: &[u8], at: usize, out: &mut [u8]) -> Answer {
+    match arguments::last_number(line, at, Name::Count) {
+        Single::Is(count, _) => {
+            Answer::Line(output::put_execution(out, replica::execute(records, bodies, count)))
+        }
+        Single::Wrong(fault) => Answer::Wrong(fault),
+    }
+}
+
+pub fn final_delivery(
+    records: &mut [u8],
+    bodies: &mut [u8],
+    line: &[u8],
+    at: usize,
+    out: &mut [u8],
+) -> Answer {
+    match arguments::last_two_numbers(line, at, Name::Client, Name::Sequence) {
+        Pair::Are(client, sequence, _) => {
+            let r = replica::deliver_final(records, bodies, client, sequence);
+            Answer::Line(output::put_delivery(out, r))
+        }
+        Pair::Wrong(fault) => Answer::Wrong(fault),
+    }
+}
+
+pub fn reader(records: &mut [u8], bodies: &[u8], line: &[u8], at: usize, out: &mut [u8]) -> Answer {
+    match arguments::last_number(line, at, Name::Reader) {
+        Single::Is(r, _) => {
+            Answer::Line(output::put_reply(out, replica::open_reader(records, bodies, r)))
+        }
+        Single::Wrong(fault) => Answer::Wrong(fault),
+    }
+}
+
+pub fn read(records: &[u8], bodies: &[u8], line: &[u8], at: usize, out: &mut [u8]) -> Answer {
+    match arguments::last_two_numbers(line, at, Name::Reader, Name::Object) {
+        Pair::Are(r, object, _) => {
+            Answer::Line(output::put_reading(out, replica::read(records, bodies, r, object)))
+        }
+        Pair::Wrong(fault) => Answer::Wrong(fault),
+    }
+}
+
+pub fn close(records: &mut [u8], bodies: &[u8], line: &[u8], at: usize, out: &mut [u8]) -> Answer {
+    match arguments::last_number(line, at, Name::Reader) {
+        Single::Is(r, _) => {
+            Answer::Line(output::put_reply(out, replica::close_reader(records, bodies, r)))
+        }
+        Single::Wrong(fault) => Answer::Wrong(fault),
+    }
+}
+
+pub fn find(records: &[u8], bodies: &[u8], line: &[u8], at: usize, out: &mut [u8]) -> Answer {
+    match arguments::last_two_numbers(line, at, Name::Client, Name::Sequence) {
+        Pair::Are(client, sequence, _) => {
+            let r = replica::find(records, bodies, client, sequence);
+            Answer::Line(output::put_finding(out, r))
+        }
+        Pair::Wrong(fault) => Answer::Wrong(fault),
+    }
+}
+
+pub fn show(records: &[u8], bodies: &[u8], line: &[u8], at: usize, out: &mut [u8]) -> Answer {
+    match arguments::last_two_numbers(line, at, Name::Client, Name::Sequence) {
+        Pair::Are(client, sequence, _) => {
+            let body = replica::show_body(records, bodies, client, sequence);
+            Answer::Line(hexadecimal::put(out, 0, body))
+        }
+        Pair::Wrong(fault) => Answer::Wrong(fault),
+    }
+}

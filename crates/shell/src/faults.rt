@@ -1,0 +1,80 @@
+// What is wrong with a line, and how the program says it.
+use crate::output;
+use text::buffer;
+
+// The arguments that are numbers, by the names that the messages use.
+pub enum Name {
+    Objects,
+    Stamp,
+    Client,
+    Sequence,
+    Count,
+    Reader,
+    Object,
+    Length,
+    At,
+}
+
+pub enum Fault {
+    LongLine,
+    UnknownCommand,
+    TooManyWords,
+    Number(Name),
+    // the value's place among the values, from 1
+    Value(u64),
+    Body,
+    Area,
+    Byte,
+    Beyond,
+}
+
+fn put_name(out: &mut [u8], at: usize, name: Name) -> usize {
+    match name {
+        Name::Objects => buffer::put(out, at, b"n"),
+        Name::Stamp => buffer::put(out, at, b"stamp"),
+        Name::Client => buffer::put(out, at, b"client"),
+        Name::Sequence => buffer::put(out, at, b"sequence"),
+        Name::Count => buffer::put(out, at, b"count"),
+        Name::Reader => buffer::put(out, at, b"reader"),
+        Name::Object => buffer::put(out, at, b"object"),
+        Name::Length => buffer::put(out, at, b"length"),
+        Name::At => buffer::put(out, at, b"at"),
+    }
+}
+
+fn put_number_fault(out: &mut [u8], at: usize, name: Name) -> usize {
+    let behind = put_name(out, at, name);
+    buffer::put(out, behind, b": not a number from 0 to 4294967295")
+}
+
+fn put_value_fault(out: &mut [u8], at: usize, place: u64) -> usize {
+    let named = buffer::put(out, at, b"value ");
+    let behind = output::put_decimal(out, named, place);
+    buffer::put(
+        out,
+        behind,
+        b": not a number from -9223372036854775808 to 9223372036854775807",
+    )
+}
+
+fn put_fault(out: &mut [u8], at: usize, fault: Fault) -> usize {
+    match fault {
+        Fault::LongLine => buffer::put(out, at, b"longer than 4095 bytes"),
+        Fault::UnknownCommand => buffer::put(out, at, b"unknown command"),
+        Fault::TooManyWords => buffer::put(out, at, b"too many words"),
+        Fault::Number(name) => put_number_fault(out, at, name),
+        Fault::Value(place) => put_value_fault(out, at, place),
+        Fault::Body => buffer::put(out, at, b"body: not pairs of hexadecimal digits, nor -"),
+        Fault::Area => buffer::put(out, at, b"area: neither record nor body"),
+        Fault::Byte => buffer::put(out, at, b"byte: not a number from 0 to 255"),
+        Fault::Beyond => buffer::put(out, at, b"at: beyond the area's end"),
+    }
+}
+
+// The error line of the line of this number.
+pub fn put_error(out: &mut [u8], line_number: u64, fault: Fault) -> usize {
+    let begun = buffer::put(out, 0, b"error ");
+    let numbered = output::put_decimal(out, begun, line_number);
+    let behind = buffer::put(out, numbered, b": ");
+    put_fault(out, behind, fault)
+}

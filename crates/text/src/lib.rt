@@ -1,0 +1,5 @@
+// Text: the words of a line, numbers and bytes as words, and text put into a buffer. Pure functions on lent bytes.
+pub mod buffer;
+pub mod hexadecimal;
+pub mod numbers;
+pub mod words;
