@@ -81,7 +81,7 @@ fn deliver_optimistic_within(
     ensures { λ r. ⌜ Met l (optimistic client sequence (now (body .entry))) (now (records .entry), now (bodies .entry)) (reply r) (now (records .exit), now (bodies .exit)) ⌝ }
 {
     if shaped {
-        queue::deliver_optimistic(records, bodies, l, client, sequence, body)
+        optimistic_delivery::deliver_optimistic(records, bodies, l, client, sequence, body)
     } else {
         Reply::Refused(1)
     }
@@ -246,7 +246,7 @@ fn execute_within(
     ensures { λ r. ⌜ Met l (execute-call count) (now (records .entry), now (bodies .entry)) (execution r) (now (records .exit), now (bodies .entry)) ⌝ }
 {
     if shaped {
-        speculation::execute(records, bodies, l, count)
+        speculative_execution::execute(records, bodies, l, count)
     } else {
         Execution::Refused(1)
     }
@@ -273,7 +273,7 @@ fn deliver_final_within(
     ensures { λ r. ⌜ Met l (final client sequence) (now (records .entry), now (bodies .entry)) (delivery r) (now (records .exit), now (bodies .exit)) ⌝ }
 {
     if shaped {
-        commit::deliver_final(records, bodies, l, client, sequence)
+        final_delivery::deliver_final(records, bodies, l, client, sequence)
     } else {
         Delivery::Refused(1)
     }

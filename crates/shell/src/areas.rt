@@ -1,12 +1,12 @@
 // The commands on the areas themselves: lend, poke and dump.
-use crate::arguments;
-use crate::arguments::Octet;
-use crate::arguments::Single;
 use crate::commands::Answer;
 use crate::commands::Lent;
-use crate::faults::Fault;
-use crate::faults::Name;
-use crate::output;
+use console::arguments;
+use console::arguments::Octet;
+use console::arguments::Single;
+use console::faults::Fault;
+use console::faults::Name;
+use console::output;
 use text::hexadecimal;
 use text::words;
 

@@ -1,12 +1,12 @@
 // The nine calls: a command's arguments, the call, and its answer's text.
-use crate::arguments;
-use crate::arguments::Pair;
-use crate::arguments::Single;
-use crate::arguments::ValueList;
 use crate::commands::Answer;
-use crate::faults::Fault;
-use crate::faults::Name;
-use crate::output;
+use console::arguments;
+use console::arguments::Pair;
+use console::arguments::Single;
+use console::arguments::ValueList;
+use console::faults::Fault;
+use console::faults::Name;
+use console::output;
 use text::buffer;
 use text::hexadecimal;
 use text::hexadecimal::Digits;

@@ -1,7 +1,7 @@
 // A command's name, and where each goes.
 use crate::areas;
 use crate::calls;
-use crate::faults::Fault;
+use console::faults::Fault;
 use text::words;
 ghost use Prim.Native.Nat.{_≤_};
 

@@ -2,16 +2,16 @@
 use crate::commands;
 use crate::commands::Answer;
 use crate::commands::Lent;
-use crate::faults;
-use crate::faults::Fault;
-use crate::input;
-use crate::input::Input;
-use crate::output;
+use console::faults;
+use console::faults::Fault;
+use console::input;
+use console::input::Input;
+use console::output;
 use text::buffer;
 use text::words;
 ghost use mathlib.Core.Path.{_≡_};
 ghost use lib.ListN.{length};
-ghost use Rattle.shell.specs.Input.{Within};
+ghost use Rattle.console.specs.Input.{Within};
 
 pub struct Progress {
     // lines answered

@@ -1,13 +1,9 @@
 // The command program: a call a line on standard input, an answer a line on standard output.
 // It holds one replica in its own arrays, which are lent to each call.
 mod areas;
-mod arguments;
 mod calls;
 mod commands;
-mod faults;
-mod input;
 mod lines;
-mod output;
 
 fn main() {
     let mut records = [0u8; 28112];

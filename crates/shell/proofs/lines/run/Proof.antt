@@ -3,7 +3,7 @@
 use mathlib.Core.Path.{_≡_}
 use lib.ListN.{length}
 use borrow.Author.Needs.{needs}
-use Rattle.shell.specs.Input.{Within}
+use Rattle.console.specs.Input.{Within}
 use Rattle.shell.proofs.lines.run.Statement.{statement}
 use Rattle.shell.proofs.lines.run.Tie as tie
 
