@@ -2,6 +2,7 @@
 use model::Limits;
 use model::Reply;
 use operation::Decoded;
+use queue::key_cell;
 ghost use mathlib.Core.Path.{_≡_};
 ghost use mathlib.Core.Bool.{true};
 ghost use Prim.Native.Nat.{_≤_, _<_};
@@ -59,13 +60,6 @@ pub fn deliver_optimistic(
     if l.pending <= count {
         return Reply::Refused(7);
     }
-    append(
-        records,
-        bodies,
-        l,
-        count,
-        queue::key_cell(client, sequence),
-        body,
-    );
+    append(records, bodies, l, count, key_cell(client, sequence), body);
     Reply::Done
 }
