@@ -1,12 +1,24 @@
 /* One replica ("unit") of the job store, in two areas that the caller lends.
  *
- * Link with libffi.a, which needs memset alone. The library allocates nothing, keeps no pointer and has no static data, so replicas
- * in different areas may be used by different threads at the same time; calls on one replica come one after another.
+ * Link with libjobstore, static or shared (pkg-config: jobstore). It needs memmove and memset alone. The library allocates
+ * nothing, keeps no pointer and has no static data, so replicas in different areas may be used by different threads at the
+ * same time; on one replica calls come one after another, those aside that change nothing (docs/HOSTING.md).
  *
  * Every call takes the record area and then the body area, each as a pointer and a length in bytes, and then its own
- * arguments. The right lengths are those of jobstore_record_length and jobstore_bodies_length; the areas need no
- * alignment. What they hold is the library's (docs/LAYOUT.md): they may be copied, stored and compared, byte by byte.
+ * arguments. The right lengths are JOBSTORE_RECORD_LENGTH and JOBSTORE_BODIES_LENGTH; the areas need no alignment. What
+ * they hold is the library's (docs/LAYOUT.md): they may be copied, stored and compared, byte by byte.
  * A pointer is never null, not even where its length is 0. The areas overlap neither each other nor another argument.
+ *
+ * One mistake is natural and breaks the last sentence: to deliver a body that Show body shows, as it stands in the body area.
+ *
+ *     struct jobstore_part part = jobstore_show_body(.., 1, 1);
+ *     jobstore_early(.., 2, 1, bodies + part.start, part.length);      WRONG: a part of the area that the call writes
+ *
+ * Copy it first, and deliver the copy:
+ *
+ *     uint8_t copy[JOBSTORE_BODY_LENGTH];
+ *     memcpy(copy, bodies + part.start, part.length);
+ *     jobstore_early(.., 2, 1, copy, part.length);
  *
  * A call yields 0 and its results, or a refusal's number with zeros beside it. A refusal changes no byte. Where several
  * causes hold, the first in the order that stands at the call wins.
@@ -16,6 +28,8 @@
 
 #include <stddef.h>
 #include <stdint.h>
+
+#define JOBSTORE_VERSION "0.1.0"
 
 #ifdef __cplusplus
 extern "C" {
@@ -38,6 +52,94 @@ enum jobstore_refusal {
     JOBSTORE_COUNT = 14           /* work count above 4,096 */
 };
 
+/* The cause of a refusal in words; of any other number, that it is none. */
+static inline const char *jobstore_refusal_text(uint32_t number)
+{
+    switch (number) {
+    case JOBSTORE_AREA:
+        return "an area has the wrong length, or its contents fail the shape check";
+    case JOBSTORE_OBJECTS:
+        return "the number of objects is not 1 to 128, or not that of the values";
+    case JOBSTORE_CLIENT:
+        return "the client is above 15";
+    case JOBSTORE_SPENT:
+        return "the key is spent: its sequence number is not above the client's last committed one";
+    case JOBSTORE_PENDING:
+        return "the key is pending already";
+    case JOBSTORE_BODY:
+        return "the body breaks a rule";
+    case JOBSTORE_FULL:
+        return "32 jobs are pending already";
+    case JOBSTORE_NOT_PENDING:
+        return "the key is not pending";
+    case JOBSTORE_LAST_STAMP:
+        return "the stamp is 4,294,967,295, so none is left";
+    case JOBSTORE_READER:
+        return "the reader is above 6";
+    case JOBSTORE_READER_OPEN:
+        return "the reader is open already";
+    case JOBSTORE_READER_CLOSED:
+        return "the reader is not open";
+    case JOBSTORE_OBJECT:
+        return "the object's number is not below the number of objects";
+    case JOBSTORE_COUNT:
+        return "the work count is above 4,096";
+    default:
+        return "no refusal";
+    }
+}
+
+/* How a job's run ended. Only with the first is anything stored. */
+enum jobstore_outcome {
+    JOBSTORE_DONE = 0,     /* past the last operation */
+    JOBSTORE_FAILED = 1,   /* at a fail */
+    JOBSTORE_OVERFLOW = 2  /* at an add or subtract that leaves 64 bits */
+};
+
+/* The kinds of operations. A register is 0 to 3 and holds 0 at the start of a job. */
+enum jobstore_kind {
+    JOBSTORE_LOAD = 0,      /* register first takes object second */
+    JOBSTORE_STORE = 1,     /* object second takes register first */
+    JOBSTORE_SET = 2,       /* register first takes the constant; second is 0 */
+    JOBSTORE_ADD = 3,       /* register first takes first plus register second */
+    JOBSTORE_SUBTRACT = 4,  /* register first takes first minus register second */
+    JOBSTORE_SKIP = 5,      /* if register first is below 0, the next `second` operations are passed over; not past the end */
+    JOBSTORE_FAIL = 6,      /* the job ends; first and second are 0 */
+    JOBSTORE_DIVIDE = 7     /* register first is divided by the constant, 1 to 1,000,000, and rounded to the nearest whole
+                               number, a half away from zero; second is 0 */
+};
+
+/* One operation of a body. The constant is 0 for kinds other than set and divide. */
+struct jobstore_operation {
+    uint8_t kind;
+    uint8_t first;
+    uint8_t second;
+    int64_t constant;
+};
+
+/* The most operations of a body, and the length of such a body in bytes. */
+#define JOBSTORE_MOST_OPERATIONS 16
+#define JOBSTORE_BODY_LENGTH 177
+
+/* Writes m operations, 1 to 16, as a body: a byte m; the operations, 3 bytes each; the constants, 8 bytes each, the lowest
+ * byte first. The array has room for 1 + 11m bytes. Returns that length; for another m 0, and early delivery refuses a body
+ * of 0 bytes. */
+static inline size_t jobstore_encode(uint8_t *body, const struct jobstore_operation *operations, size_t m)
+{
+    size_t k, b;
+    if (m < 1 || JOBSTORE_MOST_OPERATIONS < m)
+        return 0;
+    body[0] = (uint8_t)m;
+    for (k = 0; k < m; k++) {
+        body[1 + 3 * k] = operations[k].kind;
+        body[2 + 3 * k] = operations[k].first;
+        body[3 + 3 * k] = operations[k].second;
+        for (b = 0; b < 8; b++)
+            body[1 + 3 * m + 8 * k + b] = (uint8_t)((uint64_t)operations[k].constant >> (8 * b));
+    }
+    return 1 + 11 * m;
+}
+
 /* Work. */
 struct jobstore_executed {
     uint32_t number;      /* 0, or the refusal */
@@ -48,7 +150,7 @@ struct jobstore_executed {
 /* Final delivery. */
 struct jobstore_committed {
     uint32_t number;   /* 0, or the refusal */
-    uint32_t outcome;  /* 0 done, 1 fail, 2 overflow */
+    uint32_t outcome;  /* enum jobstore_outcome */
     uint32_t kept;     /* 1: the early results were kept; 0: the job was run again */
     uint32_t stamp;    /* the new commit stamp */
     uint32_t stored;   /* number of objects stored */
@@ -73,10 +175,12 @@ struct jobstore_part {
     uint32_t length;
 };
 
-/* The length of the record area in bytes: 28,112. */
+/* The length of the record area in bytes, for arrays and as the library has it. */
+#define JOBSTORE_RECORD_LENGTH 28112
 uint32_t jobstore_record_length(void);
 
-/* The length of the body area in bytes: 5,664. */
+/* The length of the body area in bytes, likewise. */
+#define JOBSTORE_BODIES_LENGTH 5664
 uint32_t jobstore_bodies_length(void);
 
 /* Open: a replica of n objects with these start values (there must be exactly n) and this start stamp; nothing pending,
@@ -86,7 +190,7 @@ uint32_t jobstore_open(uint8_t *record, size_t record_length, uint8_t *bodies, s
                        uint32_t n, const int64_t *values, size_t values_length, uint32_t stamp);
 
 /* Early delivery: the key (client 0 to 15, sequence number) and the body go to the end of the optimistic order.
- * A body is a byte m, 1 to 16; m operations of 3 bytes (kind, first, second); m constants of 8 bytes, the lowest byte first.
+ * A body is as jobstore_encode writes it; it is no part of the body area (see above).
  * Returns 0, or refusal 1, 3, 4, 5, 6, 7. */
 uint32_t jobstore_early(uint8_t *record, size_t record_length, uint8_t *bodies, size_t bodies_length,
                         uint32_t client, uint32_t sequence, const uint8_t *body, size_t body_length);

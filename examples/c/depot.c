@@ -4,10 +4,10 @@
 #include <stdio.h>
 #include <string.h>
 
-#include "jobstore.h"
+#include <jobstore.h>
 
-static uint8_t record[28112];
-static uint8_t bodies[5664];
+static uint8_t record[JOBSTORE_RECORD_LENGTH];
+static uint8_t bodies[JOBSTORE_BODIES_LENGTH];
 static int wrong;
 
 static void say(const char *what, int64_t is, int64_t due)
@@ -19,36 +19,16 @@ static void say(const char *what, int64_t is, int64_t due)
     }
 }
 
-/* One operation of a body: kind, first, second, constant. */
-struct operation {
-    uint8_t kind, first, second;
-    int64_t constant;
-};
-
-/* Writes m operations as a body, and returns its length. */
-static size_t encode(uint8_t *body, const struct operation *operations, size_t m)
+static uint32_t early(uint32_t client, uint32_t sequence, const struct jobstore_operation *operations, size_t m)
 {
-    body[0] = (uint8_t)m;
-    for (size_t k = 0; k < m; k++) {
-        body[1 + 3 * k] = operations[k].kind;
-        body[2 + 3 * k] = operations[k].first;
-        body[3 + 3 * k] = operations[k].second;
-        for (size_t b = 0; b < 8; b++)
-            body[1 + 3 * m + 8 * k + b] = (uint8_t)((uint64_t)operations[k].constant >> (8 * b));
-    }
-    return 1 + 11 * m;
+    uint8_t body[JOBSTORE_BODY_LENGTH];
+    size_t length = jobstore_encode(body, operations, m);
+    return jobstore_early(record, sizeof record, bodies, sizeof bodies, client, sequence, body, length);
 }
 
-static uint32_t early(uint32_t client, const struct operation *operations, size_t m)
+static struct jobstore_committed final(uint32_t client, uint32_t sequence)
 {
-    uint8_t body[177];
-    size_t length = encode(body, operations, m);
-    return jobstore_early(record, sizeof record, bodies, sizeof bodies, client, 1, body, length);
-}
-
-static struct jobstore_committed final(uint32_t client)
-{
-    return jobstore_final(record, sizeof record, bodies, sizeof bodies, client, 1);
+    return jobstore_final(record, sizeof record, bodies, sizeof bodies, client, sequence);
 }
 
 static int64_t value(uint32_t reader, uint32_t object)
@@ -58,32 +38,33 @@ static int64_t value(uint32_t reader, uint32_t object)
     return r.value;
 }
 
-/* A: load 0, set 5, add, store 0. B: load 1, store 2. C: load 0, store 1. */
-static const struct operation a[] = {{0, 0, 0, 0}, {2, 1, 0, 5}, {3, 0, 1, 0}, {1, 0, 0, 0}};
-static const struct operation b[] = {{0, 0, 1, 0}, {1, 0, 2, 0}};
-static const struct operation c[] = {{0, 0, 0, 0}, {1, 0, 1, 0}};
+/* A: object 0 gets 5 more. B: object 2 becomes what object 1 is. C: object 1 becomes what object 0 is. */
+static const struct jobstore_operation a[] = {
+    {JOBSTORE_LOAD, 0, 0, 0}, {JOBSTORE_SET, 1, 0, 5}, {JOBSTORE_ADD, 0, 1, 0}, {JOBSTORE_STORE, 0, 0, 0}};
+static const struct jobstore_operation b[] = {{JOBSTORE_LOAD, 0, 1, 0}, {JOBSTORE_STORE, 0, 2, 0}};
+static const struct jobstore_operation c[] = {{JOBSTORE_LOAD, 0, 0, 0}, {JOBSTORE_STORE, 0, 1, 0}};
 
 static void open_depot(void)
 {
     const int64_t values[] = {10, 20, 30};
-    say("record area", (int64_t)sizeof record, jobstore_record_length());
-    say("body area", (int64_t)sizeof bodies, jobstore_bodies_length());
+    say("record area", jobstore_record_length(), JOBSTORE_RECORD_LENGTH);
+    say("body area", jobstore_bodies_length(), JOBSTORE_BODIES_LENGTH);
     say("open", jobstore_open(record, sizeof record, bodies, sizeof bodies, 3, values, 3, 0), 0);
-    say("early A", early(1, a, 4), 0);
-    say("early B", early(2, b, 2), 0);
-    say("early C", early(3, c, 2), 0);
+    say("early A", early(1, 1, a, 4), 0);
+    say("early B", early(2, 1, b, 2), 0);
+    say("early C", early(3, 1, c, 2), 0);
     say("open reader 0", jobstore_open_reader(record, sizeof record, bodies, sizeof bodies, 0), 0);
 }
 
 static void pending(void)
 {
-    uint8_t body[177];
+    uint8_t body[JOBSTORE_BODY_LENGTH];
     struct jobstore_found found = jobstore_find(record, sizeof record, bodies, sizeof bodies, 2, 1);
     struct jobstore_part part = jobstore_show_body(record, sizeof record, bodies, sizeof bodies, 2, 1);
     say("find B, number", found.number, 0);
     say("  place", found.place, 1);
     say("  length", found.length, 23);
-    say("show body of B, length", part.length, (int64_t)encode(body, b, 2));
+    say("show body of B, length", part.length, (int64_t)jobstore_encode(body, b, 2));
     say("  as delivered", memcmp(bodies + part.start, body, part.length), 0);
 }
 
@@ -95,11 +76,20 @@ static void work(void)
     say("  finished", r.finished, 3);
 }
 
-static void commit(const char *what, uint32_t client, uint32_t kept, uint32_t stamp)
+/* B once more under the next key: the body that is shown is copied first, since the delivery writes the body area. */
+static void repeat(void)
 {
-    struct jobstore_committed r = final(client);
+    uint8_t copy[JOBSTORE_BODY_LENGTH];
+    struct jobstore_part part = jobstore_show_body(record, sizeof record, bodies, sizeof bodies, 2, 1);
+    memcpy(copy, bodies + part.start, part.length);
+    say("early B, next key", jobstore_early(record, sizeof record, bodies, sizeof bodies, 2, 2, copy, part.length), 0);
+}
+
+static void commit(const char *what, uint32_t client, uint32_t sequence, uint32_t kept, uint32_t stamp)
+{
+    struct jobstore_committed r = final(client, sequence);
     say(what, r.number, 0);
-    say("  outcome", r.outcome, 0);
+    say("  outcome", r.outcome, JOBSTORE_DONE);
     say("  kept", r.kept, kept);
     say("  stamp", r.stamp, stamp);
     say("  stored", r.stored, 1);
@@ -110,11 +100,29 @@ static void spent(void)
 {
     static uint8_t before[sizeof record];
     memcpy(before, record, sizeof record);
-    struct jobstore_committed r = final(1);
+    struct jobstore_committed r = final(1, 1);
     say("final A again", r.number, JOBSTORE_SPENT);
+    printf("  %s\n", jobstore_refusal_text(r.number));
     say("  beside it", (int64_t)r.outcome + r.kept + r.stamp + r.stored, 0);
     say("  changed", memcmp(before, record, sizeof record), 0);
     say("  on a short area", jobstore_final(record, sizeof record - 1, bodies, sizeof bodies, 1, 1).number, JOBSTORE_AREA);
+}
+
+/* The header's own functions: the bytes of a body, no body for another number of operations, a text for every refusal. */
+static void header(void)
+{
+    const struct jobstore_operation parts[] = {{JOBSTORE_SKIP, 3, 1, 0}, {JOBSTORE_DIVIDE, 2, 0, -2}};
+    const uint8_t due[] = {2, 5, 3, 1, 7, 2, 0, 0, 0, 0, 0, 0, 0, 0, 0, 254, 255, 255, 255, 255, 255, 255, 255};
+    uint8_t body[JOBSTORE_BODY_LENGTH];
+    say("encoded", (int64_t)jobstore_encode(body, parts, 2), sizeof due);
+    say("  its bytes", memcmp(body, due, sizeof due), 0);
+    say("  no operation", (int64_t)jobstore_encode(body, parts, 0), 0);
+    say("  17 operations", (int64_t)jobstore_encode(body, parts, JOBSTORE_MOST_OPERATIONS + 1), 0);
+    say("early, no operation", early(4, 1, parts, 0), JOBSTORE_BODY);
+    for (uint32_t number = 0; number < 16; number++) {
+        int none = strcmp(jobstore_refusal_text(number), "no refusal") == 0;
+        say("  without a text", none, number < JOBSTORE_AREA || JOBSTORE_COUNT < number);
+    }
 }
 
 int main(void)
@@ -122,9 +130,10 @@ int main(void)
     open_depot();
     pending();
     work();
-    commit("final C", 3, 0, 1);
-    commit("final A", 1, 1, 2);
-    commit("final B", 2, 0, 3);
+    repeat();
+    commit("final C", 3, 1, 0, 1);
+    commit("final A", 1, 1, 1, 2);
+    commit("final B", 2, 1, 0, 3);
     spent();
     say("open reader 1", jobstore_open_reader(record, sizeof record, bodies, sizeof bodies, 1), 0);
     say("object 0", value(1, 0), 15);
@@ -132,5 +141,7 @@ int main(void)
     say("object 2", value(1, 2), 10);
     say("object 0 as reader 0 sees it", value(0, 0), 10);
     say("close 0", jobstore_close_reader(record, sizeof record, bodies, sizeof bodies, 0), 0);
+    commit("final B, next key", 2, 2, 0, 4);
+    header();
     return wrong;
 }

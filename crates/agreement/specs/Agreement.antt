@@ -8,20 +8,21 @@ use lib.ListN.{length}
 use Rattle.model.specs.declared.Limits.{Limits}
 use Rattle.model.specs.Lists.{any}
 use Rattle.model.specs.Calls.{Call, open-reader, read, done, value}
+use Rattle.model.specs.Start.{start-of}
 use Rattle.model.specs.Serial as serial
 use Rattle.model.specs.Serial.{Serial}
-use Rattle.model.specs.Replica.{table}
+use Rattle.model.specs.Replica.{committed-table}
 use Rattle.model.specs.ListLaws.{All}
 use Rattle.model.specs.ShapeKept.{Typed}
 use Rattle.model.specs.Serializability.{Serializable}
 use Rattle.model.specs.Replicas.{SameCommits}
-use Rattle.model.specs.Readers.{ends}
-use Rattle.model.specs.Record.{EarlyResults, demand-3-record}
+use Rattle.model.specs.ReaderSnapshots.{ends}
+use Rattle.model.specs.EarlyRecord.{EarlyResults, demand-3-record}
 use Rattle.layout.specs.Fit.{fit}
 use Rattle.layout.specs.Act.{act, acts}
-use Rattle.layout.specs.Areas.{acts-fit, demand-3-areas}
+use Rattle.layout.specs.Areas.{acts-fit, serializable-on-areas}
 use Rattle.agreement.specs.Trace.{Trace, list, answers, areas, replica, history}
-use Rattle.agreement.specs.Laws.{replica-same, reads-as-opened, same-commits}
+use Rattle.agreement.specs.TraceLaws.{dated, replica-same, reads-as-opened, same-commits}
 
 -- What holds of a trace: the answers of its calls, and the replica that the areas say after them.
 pub record Demand3 {l : Limits} (x : Trace l) : Type 0 where
@@ -35,19 +36,19 @@ pub record Demand3 {l : Limits} (x : Trace l) : Type 0 where
   pub snapshot : (r : ℕ) → act l (open-reader r) (areas x) .0 ≡ done
       → (cs : List Call) → All Typed cs → any (ends l r) cs ≡ false
       → (o : ℕ) → o < length (replica x .objects)
-      → act l (read r o) (acts l (open-reader r ∷ cs) (areas x) .1) .0 ≡ value (table (replica x .objects) .look o)
+      → act l (read r o) (acts l (open-reader r ∷ cs) (areas x) .1) .0 ≡ value (committed-table (replica x) .look o)
   -- early results on record "equal those of running the pending jobs in early order, each on the committed table with the stores of those before it, a
   -- partly run one up to its place"
   pub early : EarlyResults (replica x)
   -- the areas pass the shape check
   pub shape : fit l (areas x) ≡ true
 
-pub demand-3 : {l : Limits} (x : Trace l) → Demand3 x
-demand-3 {l} x =
+pub demand-3-on-areas : {l : Limits} (x : Trace l) → Demand3 x
+demand-3-on-areas {l} x =
     record {
-      serializable = demand-3-areas l (x .sane) (x .size) (x .values) (x .timestamp) (x .before) (x .accepted) (x .typed .0) (x .later) (x .typed .1);
+      serializable = serializable-on-areas l (x .sane) (x .opening) (x .before) (x .accepted) (x .typed .0) (x .later) (x .typed .1);
       agreement = same-commits x;
       snapshot = reads-as-opened x;
-      early = subst EarlyResults (sym (replica-same x)) (demand-3-record l (x .values) (x .timestamp) (x .later));
-      shape = acts-fit l (x .sane) (x .size) (x .values) (x .timestamp) (x .before) (x .accepted) (x .typed .0) (x .later) (x .typed .1);
+      early = subst EarlyResults (sym (replica-same x)) (demand-3-record l (start-of (x .opening)) (dated x) (x .later));
+      shape = acts-fit l (x .sane) (x .opening) (x .before) (x .accepted) (x .typed .0) (x .later) (x .typed .1);
     }

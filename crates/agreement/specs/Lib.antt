@@ -1,6 +1,6 @@
 pub mod Trace
-pub mod Laws
+pub mod TraceLaws
 pub mod Agreement
-pub mod Cases
-pub mod Example
-pub mod Contract
+pub mod CasesOnAreas
+pub mod TwoKinds
+pub mod ContractTrace

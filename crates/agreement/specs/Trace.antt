@@ -3,9 +3,9 @@ use mathlib.Core.Path.{_≡_}
 use mathlib.Core.Bool.{Bool, true, false, cond}
 use mathlib.Core.List.{List, [], _∷_, _++_}
 use Prim.Native.Nat.{ℕ}
-use lib.IntN.{ℤ}
 use Rattle.model.specs.declared.Limits.{Limits}
-use Rattle.model.specs.Calls.{Call, opening, optimistic, execute, final, open-reader, read, close-reader, find, show-body, Answer, refused, done, executed, committed, value, found, body}
+use Rattle.model.specs.Interface.{Opening, optimistic, execute, final, open-reader, close-reader, show-body, Call, opening, update, query, value, found, body, done, executed, committed, observed, Answer, refused, yielded}
+use Rattle.model.specs.Start.{start-of}
 use Rattle.model.specs.Replica.{Replica}
 use Rattle.model.specs.ListLaws.{All}
 use Rattle.model.specs.ShapeKept.{Typed}
@@ -18,17 +18,15 @@ use Rattle.layout.specs.Act.{act, acts}
 pub record Trace (l : Limits) : Type 0 where
   pub sane : Sane l  -- no offset overflows
   pub before : Areas
-  pub size : ℕ
-  pub values : List ℤ
-  pub timestamp : ℕ
+  pub opening : Opening
   pub later : List Call
-  pub accepted : act l (opening size values timestamp) before .0 ≡ done
-  pub typed : All Typed (opening size values timestamp ∷ later)  -- what the types of the code's arguments give
+  pub accepted : act l (Call.opening opening) before .0 ≡ yielded done
+  pub typed : All Typed (Call.opening opening ∷ later)  -- what the types of the code's arguments give
 
 module _ {l : Limits} (x : Trace l) where
   -- the opening first
   abbrev pub list : List Call
-  list = opening (x .size) (x .values) (x .timestamp) ∷ x .later
+  list = opening (x .opening) ∷ x .later
 
   -- each call is given both areas as the last one left them
   abbrev pub answers : List Answer
@@ -45,33 +43,26 @@ module _ {l : Limits} (x : Trace l) where
 
 abbrev pub taken : Answer → Bool
 taken (refused k) = false
-taken done = true
-taken (executed n f) = true
-taken (committed o v t n) = true
-taken (value v) = true
-taken (found i n) = true
-taken (body b) = true
+taken (yielded y) = true
 
 abbrev pub bytes-in : Answer → List ℕ
 bytes-in (refused k) = []
-bytes-in done = []
-bytes-in (executed n f) = []
-bytes-in (committed o v t n) = []
-bytes-in (value v) = []
-bytes-in (found i n) = []
-bytes-in (body b) = b
+bytes-in (yielded done) = []
+bytes-in (yielded (executed n f)) = []
+bytes-in (yielded (committed r)) = []
+bytes-in (yielded (observed (value v))) = []
+bytes-in (yielded (observed (found i n))) = []
+bytes-in (yielded (observed (body b))) = b
 
--- what a call that is accepted on these areas adds: a final delivery its key and the body that Show body shows for it, an opening its arguments
+-- what a call that is accepted on these areas adds: a final delivery its key and the body that Show body shows for it, an opening where it starts
 abbrev pub event : Limits → Areas → Call → List Event
-event l a (opening n vs t) = reopening vs t ∷ []
-event l a (optimistic c s b) = []
-event l a (execute k) = []
-event l a (final c s) = delivery c s (bytes-in (act l (show-body c s) a .0)) ∷ []
-event l a (open-reader r) = []
-event l a (read r o) = []
-event l a (close-reader r) = []
-event l a (find c s) = []
-event l a (show-body c s) = []
+event l a (opening o) = reopening (start-of o) ∷ []
+event l a (update (optimistic c s b)) = []
+event l a (update (execute k)) = []
+event l a (update (final c s)) = delivery c s (bytes-in (act l (query (show-body c s)) a .0)) ∷ []
+event l a (update (open-reader r)) = []
+event l a (update (close-reader r)) = []
+event l a (query q) = []
 
 -- judged by the answers alone
 unfoldable pub history-from : Limits → List Call → Areas → List Event

@@ -11,8 +11,8 @@ use borrow.Author.Tests.{ltb-true}
 use mir.Syntax.{w64}
 use mir.Val.{SFits, toZ, ofZ}
 use mir.Facts.{toZ-ofZ}
-use Rattle.arith.specs.Integer.{onSide}
-use Rattle.arith.specs.Laws.{posPart, negPart, difference-parts, same-parts, read-back}
+use Rattle.arith.specs.Integer.{on-side}
+use Rattle.arith.specs.IntegerLaws.{pos-part, neg-part, difference-parts, same-parts, read-back}
 
 below : (x : ℤ) → ltZ x (pos 0) ≡ true → x ≡ negsuc (mag x)
 below (pos n) e = absurd (omega (arith, ltb-true n 0 e))
@@ -24,11 +24,11 @@ not-below (negsuc n) e = absurd (subst T e tt)
 
 -- -1 - z, as the code goes from one side of 0 to the other
 flip-negsuc : (n : ℕ) → negsuc 0 -ℤ negsuc n ≡ pos n
-unfolding posPart negPart
+unfolding pos-part neg-part
 flip-negsuc n = same-parts _ _ (omega (arith, difference-parts (negsuc 0) (negsuc n)))
 
 pub flip-pos : (n : ℕ) → negsuc 0 -ℤ pos n ≡ negsuc n
-unfolding posPart negPart
+unfolding pos-part neg-part
 flip-pos n = same-parts _ _ (omega (arith, difference-parts (negsuc 0) (pos n)))
 
 negsuc-neg : (q : ℕ) → (q ≡ 0 → ⊥) → negsuc (q - 1) ≡ negℤ (pos q)
@@ -50,7 +50,7 @@ module _ {x : ℤ} (f : SFits w64 x) where
     pub natAbs-low : natAbs x ≡ mag x + 1
     natAbs-low = ap natAbs low ∙ sym (add-one (mag x))
 
-    pub side-low : (q : ℕ) → (q ≡ 0 → ⊥) → negsuc (q - 1) ≡ onSide x q
+    pub side-low : (q : ℕ) → (q ≡ 0 → ⊥) → negsuc (q - 1) ≡ on-side x q
     side-low q h = rw low (negsuc-neg q h)
 
   module _ (e : ltZ (toZ w64 (ofZ w64 x)) (pos 0) ≡ false) where

@@ -10,13 +10,13 @@ use mir.Val.{SFits, toZ, ofZ}
 use mir.Facts.{toZ-ofZ}
 use Rattle.arith.specs.declared.Checked.the-variants.{Value, Overflow}
 use Rattle.arith.specs.Integer.{fits, bounded}
-use Rattle.arith.specs.Laws.{posPart, negPart, sum-parts, difference-parts, less-parts, not-less-parts, fits-parts, in-range, above-range, below-range, fits→SFits, SFits→fits}
+use Rattle.arith.specs.IntegerLaws.{pos-part, neg-part, sum-parts, difference-parts, less-parts, not-less-parts, fits-parts, in-range, above-range, below-range, fits→SFits, SFits→fits}
 
 -- The edge of x for the sum or difference z. On the low side z is at most x, and one below the range where x is the edge;
 -- on the other it is at least x, and the highest number where x is the edge.
 pub data Edge (x z edge : ℤ) : Bool → Type 0 where
-  low : posPart z + negPart x ≤ posPart x + negPart z → posPart z + posPart edge + negPart x + 2 ^ 63 + 1 ≡ negPart z + negPart edge + posPart x → Edge x z edge true
-  high : posPart x + negPart z ≤ posPart z + negPart x → posPart z + posPart edge + negPart x + 1 ≡ negPart z + negPart edge + posPart x + 2 ^ 63 → Edge x z edge false
+  low : pos-part z + neg-part x ≤ pos-part x + neg-part z → pos-part z + pos-part edge + neg-part x + 2 ^ 63 + 1 ≡ neg-part z + neg-part edge + pos-part x → Edge x z edge true
+  high : pos-part x + neg-part z ≤ pos-part z + neg-part x → pos-part z + pos-part edge + neg-part x + 1 ≡ neg-part z + neg-part edge + pos-part x + 2 ^ 63 → Edge x z edge false
 
 test-by : {x z edge : ℤ} {s : Bool} → Edge x z edge s → fits x ≡ true → (t : Bool) → ltZ edge x ≡ t → fits z ≡ Bool·beq t s
 test-by {x} {z} {edge} (low o d) f true e = in-range z (omega (arith, less-parts edge x e, fits-parts x f))
@@ -43,7 +43,7 @@ least = negsuc 9223372036854775807
 abbrev most : ℤ
 most = pos 9223372036854775807
 
-held : (z : ℤ) → (posPart z < 2 ^ 63 + negPart z) × (negPart z ≤ 2 ^ 63 + posPart z) → SFits w64 z
+held : (z : ℤ) → (pos-part z < 2 ^ 63 + neg-part z) × (neg-part z ≤ 2 ^ 63 + pos-part z) → SFits w64 z
 held z h = fits→SFits z (in-range z h)
 
 -- a number as the machine reads it
@@ -52,55 +52,55 @@ as-read f = rw (toZ-ofZ f) f
 
 -- what the code computes on the way to an edge stays in the range
 module _ {y : ℤ} (f : SFits w64 y) where
-  range : (posPart y < 2 ^ 63) × (negPart y ≤ 2 ^ 63)
+  range : (pos-part y < 2 ^ 63) × (neg-part y ≤ 2 ^ 63)
   range = fits-parts y (SFits→fits f)
 
   module _ (e : ltZ y (pos 0) ≡ true) where
     pub next-held : SFits w64 (y +ℤ pos 1)
-    unfolding posPart negPart
+    unfolding pos-part neg-part
     next-held = held _ (omega (arith, range, less-parts y (pos 0) e, sum-parts y (pos 1)))
 
     pub add-low-held : SFits w64 (least -ℤ (y +ℤ pos 1))
-    unfolding posPart negPart
+    unfolding pos-part neg-part
     add-low-held = held _ (omega (arith, range, less-parts y (pos 0) e, sum-parts y (pos 1), difference-parts least (y +ℤ pos 1)))
 
   pub add-high-held : ltZ y (pos 0) ≡ false → SFits w64 (most -ℤ y)
-  unfolding posPart negPart
+  unfolding pos-part neg-part
   add-high-held e = held _ (omega (arith, range, not-less-parts y (pos 0) e, difference-parts most y))
 
   module _ (e : ltZ (pos 0) y ≡ true) where
     pub previous-held : SFits w64 (y -ℤ pos 1)
-    unfolding posPart negPart
+    unfolding pos-part neg-part
     previous-held = held _ (omega (arith, range, less-parts (pos 0) y e, difference-parts y (pos 1)))
 
     pub subtract-low-held : SFits w64 (least +ℤ (y -ℤ pos 1))
-    unfolding posPart negPart
+    unfolding pos-part neg-part
     subtract-low-held = held _ (omega (arith, range, less-parts (pos 0) y e, difference-parts y (pos 1), sum-parts least (y -ℤ pos 1)))
 
   pub subtract-high-held : ltZ (pos 0) y ≡ false → SFits w64 (most +ℤ y)
-  unfolding posPart negPart
+  unfolding pos-part neg-part
   subtract-high-held e = held _ (omega (arith, range, not-less-parts (pos 0) y e, sum-parts most y))
 
 -- and is the edge
 module _ (x y : ℤ) where
   pub add-low : ltZ y (pos 0) ≡ true → Edge x (x +ℤ y) (least -ℤ (y +ℤ pos 1)) true
-  unfolding posPart negPart
+  unfolding pos-part neg-part
   add-low e =
       low (omega (arith, sum-parts x y, less-parts y (pos 0) e))
       (omega (arith, sum-parts x y, sum-parts y (pos 1), difference-parts least (y +ℤ pos 1)))
 
   pub add-high : ltZ y (pos 0) ≡ false → Edge x (x +ℤ y) (most -ℤ y) false
-  unfolding posPart negPart
+  unfolding pos-part neg-part
   add-high e =
       high (omega (arith, sum-parts x y, not-less-parts y (pos 0) e)) (omega (arith, sum-parts x y, difference-parts most y))
 
   pub subtract-low : ltZ (pos 0) y ≡ true → Edge x (x -ℤ y) (least +ℤ (y -ℤ pos 1)) true
-  unfolding posPart negPart
+  unfolding pos-part neg-part
   subtract-low e =
       low (omega (arith, difference-parts x y, less-parts (pos 0) y e))
       (omega (arith, difference-parts x y, difference-parts y (pos 1), sum-parts least (y -ℤ pos 1)))
 
   pub subtract-high : ltZ (pos 0) y ≡ false → Edge x (x -ℤ y) (most +ℤ y) false
-  unfolding posPart negPart
+  unfolding pos-part neg-part
   subtract-high e =
       high (omega (arith, difference-parts x y, not-less-parts (pos 0) y e)) (omega (arith, difference-parts x y, sum-parts most y))

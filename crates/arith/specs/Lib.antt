@@ -1,3 +1,4 @@
--- The definitions of `arith`, and their laws.
+-- The definitions of `arith`, their laws and examples.
 pub mod Integer
-pub mod Laws
+pub mod IntegerLaws
+pub mod IntegerExamples

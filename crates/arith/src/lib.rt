@@ -2,7 +2,7 @@
 ghost use mathlib.Core.Path.{_≡_};
 ghost use Prim.Native.Nat.{_^_, _≤_, _<_};
 ghost use lib.IntN.{_+ℤ_, _-ℤ_, natAbs};
-ghost use Rattle.arith.specs.Integer.{bounded, roundsUp, rounded, onSide, quotient};
+ghost use Rattle.arith.specs.Integer.{bounded, rounds-up, rounded, on-side, quotient};
 
 // A sum or difference, or that it leaves 64 bits.
 pub enum Checked {
@@ -59,7 +59,7 @@ fn magnitude(x: i64) -> u64
 // The number at the distance q from 0, on the side of x.
 fn on_side(x: i64, q: u64) -> i64
     requires { ⌜ q ≤ natAbs x ⌝ }
-    ensures { λ r. ⌜ r ≡ onSide x q ⌝ }
+    ensures { λ r. ⌜ r ≡ on-side x q ⌝ }
 {
     if x < 0 {
         if q == 0 { 0 } else { -1 - ((q - 1) as i64) }
@@ -71,7 +71,7 @@ fn on_side(x: i64, q: u64) -> i64
 // Whether the quotient q with the remainder r is rounded up. The rule for a half stands in this function alone.
 fn rounds_up(q: u64, r: u64, d: u64) -> bool
     requires { ⌜ (r < d) × (d ≤ 2 ^ 63) ⌝ }
-    ensures { λ b. ⌜ b ≡ roundsUp q r d ⌝ }
+    ensures { λ b. ⌜ b ≡ rounds-up q r d ⌝ }
 {
     d <= 2 * r
 }

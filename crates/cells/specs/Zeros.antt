@@ -1,7 +1,6 @@
 -- Whether every element of a list is 0: of bytes and of cells, and a turn of a scan by OR. Assumes nothing.
 use Prim.Native.Nat.{ℕ, zero, suc, _+_, _-_, _*_, _/_, _≤_, _<_}
 use mathlib.Core.Path.{_≡_, refl, sym, ap, ap₂, _∙_}
-use mathlib.Core.Logic.{_↔_}
 use mathlib.Core.Bool.{Bool, true, false, _&&_, and-true, and-assoc}
 use mathlib.Core.List.{List, [], _∷_, _++_}
 use native.Mathlib.Omega.{arith}
@@ -12,8 +11,8 @@ use lib.ListN.{length, take, drop, getD, replicate, length-drop, take-append-dro
 use lib.Seq.{slice, slice-cons, slice-empty, length-slice}
 use borrow.Author.Tests.{ne-eqb}
 use Rattle.words.specs.Words.{word}
-use Rattle.cells.specs.Cells.{cellsOf, cells}
-use Rattle.cells.specs.Laws.{cells-slice}
+use Rattle.cells.specs.Cells.{first-cells, cells}
+use Rattle.cells.specs.CellLaws.{cells-slice}
 
 abbrev pub zeros : List ℕ → Bool
 zeros [] = true
@@ -29,13 +28,6 @@ pub zeros-true : (l : List ℕ) → zeros l ≡ true → l ≡ replicate (length
 zeros-true [] e = refl
 zeros-true (zero ∷ l) e = ap (λ (r : List ℕ). 0 ∷ r) (zeros-true l e)
 zeros-true (suc x ∷ l) e = let z : false ≡ true = rw eqb·suc-zero at e in cc
-
--- the part that `all_zero` looks at
-pub zeros-part : (f t : ℕ) (xs : List ℕ) → t ≤ length xs → (zeros (slice f t xs) ≡ true) ↔ (slice f t xs ≡ replicate (t - f) 0)
-zeros-part f t xs h = (
-  λ e. zeros-true (slice f t xs) e ∙ ap (λ (n : ℕ). replicate n 0) (length-slice f t xs h),
-  λ e. rw e (zeros-replicate (t - f)),
-)
 
 -- ---- whole cells are 0 exactly if their bytes are
 
@@ -55,11 +47,11 @@ zeros-append : (xs ys : List ℕ) → zeros (xs ++ ys) ≡ zeros xs && zeros ys
 zeros-append [] ys = refl
 zeros-append (x ∷ xs) ys = rw (zeros-append xs ys) (sym (and-assoc (eqb x 0) (zeros xs) (zeros ys)))
 
-zeros-cellsOf : (n : ℕ) (xs : List ℕ) → length xs ≡ n * 8 → zeros (cellsOf n xs) ≡ zeros xs
-zeros-cellsOf zero [] h = refl
-zeros-cellsOf zero (x ∷ xs) h = absurd (omega arith)
-zeros-cellsOf (suc n) xs h =
-    ap₂ _&&_ (word-zeros (take 8 xs)) (zeros-cellsOf n (drop 8 xs) (length-drop 8 xs ∙ omega arith))
+zeros-first-cells : (n : ℕ) (xs : List ℕ) → length xs ≡ n * 8 → zeros (first-cells n xs) ≡ zeros xs
+zeros-first-cells zero [] h = refl
+zeros-first-cells zero (x ∷ xs) h = absurd (omega arith)
+zeros-first-cells (suc n) xs h =
+    ap₂ _&&_ (word-zeros (take 8 xs)) (zeros-first-cells n (drop 8 xs) (length-drop 8 xs ∙ omega arith))
     ∙ sym (zeros-append (take 8 xs) (drop 8 xs))
     ∙ ap zeros (take-append-drop 8 xs)
 
@@ -67,7 +59,7 @@ pub zeros-cells : (xs : List ℕ) (n : ℕ) → length xs ≡ n * 8 → zeros (c
 unfolding cells
 zeros-cells xs n h =
     let e : length xs / 8 ≡ n = omega arith in
-    rw e (zeros-cellsOf n xs h)
+    rw e (zeros-first-cells n xs h)
 
 -- what a scan over bytes says of the cells from f up to t
 pub zeros-cells-part : (f t : ℕ) (xs : List ℕ) → t * 8 ≤ length xs → zeros (slice (f * 8) (t * 8) xs) ≡ zeros (slice f t (cells xs))

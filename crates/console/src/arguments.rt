@@ -93,11 +93,12 @@ pub fn last_byte(line: &[u8], at: usize) -> Octet {
     }
 }
 
-// The signed numbers to the line's end, put at the start of out.
+// The signed numbers to the line's end, put at the start of out; those that do not fit are counted alone.
+// In the loop `next` is the index behind the first `count` of them.
 pub fn values(line: &[u8], at: usize, out: &mut [i64]) -> ValueList {
     let mut next = at;
     let mut count = 0;
-    while count < out.len() {
+    while next < line.len() {
         let w = words::next(line, next);
         let from = w.from;
         let to = w.to;
@@ -107,13 +108,11 @@ pub fn values(line: &[u8], at: usize, out: &mut [i64]) -> ValueList {
         let Integer::Value(v) = numbers::signed(&line[from..to]) else {
             return ValueList::Wrong(Fault::Value(count as u64 + 1));
         };
-        out[count] = v;
+        if count < out.len() {
+            out[count] = v;
+        }
         next = to;
         count += 1;
     }
-    if words::ended(line, next) {
-        ValueList::Count(count)
-    } else {
-        ValueList::Wrong(Fault::TooManyWords)
-    }
+    ValueList::Count(count)
 }

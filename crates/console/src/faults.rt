@@ -1,6 +1,6 @@
 // What is wrong with a line, and how the program says it.
-use crate::output;
 use text::buffer;
+use text::numerals;
 
 // The arguments that are numbers, by the names that the messages use.
 pub enum Name {
@@ -49,7 +49,7 @@ fn put_number_fault(out: &mut [u8], at: usize, name: Name) -> usize {
 
 fn put_value_fault(out: &mut [u8], at: usize, place: u64) -> usize {
     let named = buffer::put(out, at, b"value ");
-    let behind = output::put_decimal(out, named, place);
+    let behind = numerals::put_unsigned(out, named, place);
     buffer::put(
         out,
         behind,
@@ -59,7 +59,7 @@ fn put_value_fault(out: &mut [u8], at: usize, place: u64) -> usize {
 
 fn put_fault(out: &mut [u8], at: usize, fault: Fault) -> usize {
     match fault {
-        Fault::LongLine => buffer::put(out, at, b"longer than 4095 bytes"),
+        Fault::LongLine => buffer::put(out, at, b"longer than 131071 bytes"),
         Fault::UnknownCommand => buffer::put(out, at, b"unknown command"),
         Fault::TooManyWords => buffer::put(out, at, b"too many words"),
         Fault::Number(name) => put_number_fault(out, at, name),
@@ -74,7 +74,7 @@ fn put_fault(out: &mut [u8], at: usize, fault: Fault) -> usize {
 // The error line of the line of this number.
 pub fn put_error(out: &mut [u8], line_number: u64, fault: Fault) -> usize {
     let begun = buffer::put(out, 0, b"error ");
-    let numbered = output::put_decimal(out, begun, line_number);
+    let numbered = numerals::put_unsigned(out, begun, line_number);
     let behind = buffer::put(out, numbered, b": ");
     put_fault(out, behind, fault)
 }

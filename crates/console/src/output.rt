@@ -6,84 +6,65 @@ use model::Finding;
 use model::Reading;
 use model::Reply;
 use text::buffer;
-use text::numbers;
+use text::numerals;
+ghost use Rattle.model.specs.Calls.{execute, final, open-reader, read, find};
+ghost use Rattle.model.specs.Answers.{reply, execution, delivery, reading, finding};
+ghost use Rattle.console.specs.Output.{Answered};
 
-pub fn put_decimal(out: &mut [u8], at: usize, n: u64) -> usize {
-    let mut text = [0u8; 20];
-    let k = io::decimal(n, &mut text);
-    buffer::put(out, at, &text[..k])
-}
-
-pub fn put_signed(out: &mut [u8], at: usize, v: i64) -> usize {
-    if v < 0 {
-        let behind = buffer::put(out, at, b"-");
-        put_decimal(out, behind, numbers::magnitude(v))
-    } else {
-        put_decimal(out, at, numbers::magnitude(v))
-    }
-}
-
-// A number behind others.
-fn put_next(out: &mut [u8], at: usize, n: u32) -> usize {
-    let behind = buffer::put(out, at, b" ");
-    put_decimal(out, behind, n as u64)
-}
-
-fn put_two(out: &mut [u8], a: u32, b: u32) -> usize {
-    let behind = put_decimal(out, 0, a as u64);
-    put_next(out, behind, b)
-}
-
-fn put_three(out: &mut [u8], a: u32, b: u32, c: u32) -> usize {
-    let behind = put_two(out, a, b);
-    put_next(out, behind, c)
-}
-
-fn put_five(out: &mut [u8], a: u32, b: u32, c: u32, d: u32, e: u32) -> usize {
-    let three = put_three(out, a, b, c);
-    let four = put_next(out, three, d);
-    put_next(out, four, e)
-}
-
-// The answers of the calls: 0 and the results, or a refusal's number and zeros.
-pub fn put_reply(out: &mut [u8], r: Reply) -> usize {
+// Each answer is a list of numbers: 0 and the results, or a refusal's number and zeros.
+pub fn put_reply(out: &mut [u8], r: Reply) -> usize
+    ensures { λ n. ⌜ Answered (now (out .entry)) (open-reader 0) (reply r) (now (out .exit)) n ⌝ }
+{
     match r {
-        Reply::Done => put_decimal(out, 0, 0),
-        Reply::Refused(k) => put_decimal(out, 0, k as u64),
+        Reply::Done => numerals::put_numbers(out, &[0]),
+        Reply::Refused(k) => numerals::put_numbers(out, &[k as i64]),
     }
 }
 
-pub fn put_execution(out: &mut [u8], r: Execution) -> usize {
+pub fn put_execution(out: &mut [u8], r: Execution) -> usize
+    ensures { λ n. ⌜ Answered (now (out .entry)) (execute 0) (execution r) (now (out .exit)) n ⌝ }
+{
     match r {
-        Execution::Executed(operations, finished) => put_three(out, 0, operations, finished),
-        Execution::Refused(k) => put_three(out, k, 0, 0),
+        Execution::Executed(operations, finished) => {
+            numerals::put_numbers(out, &[0, operations as i64, finished as i64])
+        }
+        Execution::Refused(k) => numerals::put_numbers(out, &[k as i64, 0, 0]),
     }
 }
 
-pub fn put_delivery(out: &mut [u8], r: Delivery) -> usize {
+pub fn put_delivery(out: &mut [u8], r: Delivery) -> usize
+    ensures { λ n. ⌜ Answered (now (out .entry)) (final 0 0) (delivery r) (now (out .exit)) n ⌝ }
+{
     match r {
         Delivery::Committed(c) => {
-            let kept = if c.validated { 1 } else { 0 };
-            put_five(out, 0, c.outcome, kept, c.timestamp.0, c.stored)
+            let outcome = c.outcome as i64;
+            let stamp = c.timestamp.0 as i64;
+            let stored = c.stored as i64;
+            if c.validated {
+                numerals::put_numbers(out, &[0, outcome, 1, stamp, stored])
+            } else {
+                numerals::put_numbers(out, &[0, outcome, 0, stamp, stored])
+            }
         }
-        Delivery::Refused(k) => put_five(out, k, 0, 0, 0, 0),
+        Delivery::Refused(k) => numerals::put_numbers(out, &[k as i64, 0, 0, 0, 0]),
     }
 }
 
-pub fn put_reading(out: &mut [u8], r: Reading) -> usize {
+pub fn put_reading(out: &mut [u8], r: Reading) -> usize
+    ensures { λ n. ⌜ Answered (now (out .entry)) (read 0 0) (reading r) (now (out .exit)) n ⌝ }
+{
     match r {
-        Reading::Value(v) => {
-            let behind = buffer::put(out, 0, b"0 ");
-            put_signed(out, behind, v)
-        }
-        Reading::Refused(k) => put_two(out, k, 0),
+        Reading::Value(v) => numerals::put_numbers(out, &[0, v]),
+        Reading::Refused(k) => numerals::put_numbers(out, &[k as i64, 0]),
     }
 }
 
-pub fn put_finding(out: &mut [u8], r: Finding) -> usize {
+pub fn put_finding(out: &mut [u8], r: Finding) -> usize
+    ensures { λ n. ⌜ Answered (now (out .entry)) (find 0 0) (finding r) (now (out .exit)) n ⌝ }
+{
     match r {
-        Finding::Found(p, length) => put_three(out, 0, p.0, length),
-        Finding::Refused(k) => put_three(out, k, 0, 0),
+        Finding::Found(p, length) => { numerals::put_numbers(out, &[0, p.0 as i64, length as i64]) }
+        Finding::Refused(k) => numerals::put_numbers(out, &[k as i64, 0, 0]),
     }
 }
 

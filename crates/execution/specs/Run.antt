@@ -6,8 +6,8 @@ use Prim.Native.Nat.{ℕ, zero, suc, _+_}
 use lib.IntN.{ℤ, pos, _+ℤ_, _-ℤ_}
 use lib.Signed.{ltZ}
 use lib.ListN.{length, getD, set, drop, replicate}
-use Rattle.arith.specs.Integer.{fits, quotient, eqZ}
-use Rattle.operation.specs.Body.{registerCount}
+use Rattle.arith.specs.Integer.{fits, quotient, eq-z}
+use Rattle.operation.specs.Body.{register-count}
 use Rattle.operation.specs.declared.Operation.{Operation}
 use Rattle.operation.specs.declared.Operation.the-variants.{Load, Store, Set, Add, Subtract, Skip, Fail, Divide}
 use Rattle.execution.specs.Entries.{Entry, lookup, update, append}
@@ -17,16 +17,20 @@ pub record Table : Type 0 where
   pub look : ℕ → ℤ
 
 -- a list of values as a table; past its end 0
-abbrev pub tableOf : List ℤ → Table
-tableOf vs = record { look = λ o. getD vs o (pos 0) }
+abbrev pub table-of : List ℤ → Table
+table-of vs = record { look = λ o. getD vs o (pos 0) }
+
+-- how many objects it has. Contracts say no more of a lent table than these two.
+abbrev pub object-count : List ℤ → ℕ
+object-count vs = length vs
 
 -- why a run stops before its end, and the outcome that says so: "1 fail, 2 overflow (an add or subtract that leaves 64 bits)"
 pub data Stop : Type 0 where
   failed overflowed : Stop
 
-abbrev pub outcomeOf : Stop → ℕ
-outcomeOf failed = 1
-outcomeOf overflowed = 2
+abbrev pub outcome-of : Stop → ℕ
+outcome-of failed = 1
+outcome-of overflowed = 2
 
 -- What an operation asks for, given the registers. All that both interpreters, this one and the serial table's, see of an operation.
 pub data Move : Type 0 where
@@ -63,7 +67,7 @@ pub record Run : Type 0 where
 
 unfoldable pub start : Run
 start =
-    record { counter = 0; outcome = 0; registers = replicate registerCount (pos 0); reads = []; writes = [] }
+    record { counter = 0; outcome = 0; registers = replicate register-count (pos 0); reads = []; writes = [] }
 
 abbrev pub or-else : Option ℤ → Option ℤ → Option ℤ
 or-else (some v) k = some v
@@ -96,7 +100,7 @@ apply T (go g k) p =
     record { counter = suc (p .counter + k); outcome = 0; registers = g; reads = p .reads; writes = p .writes }
 -- "With outcome 1 or 2 nothing is stored."
 apply T (halt s) p =
-    record { counter = suc (p .counter); outcome = outcomeOf s; registers = p .registers; reads = p .reads; writes = [] }
+    record { counter = suc (p .counter); outcome = outcome-of s; registers = p .registers; reads = p .reads; writes = [] }
 
 -- the operation that is due: none where the run has stopped or is past the last
 abbrev pub due-at : List Operation → ℕ → ℕ → Option Operation
@@ -137,7 +141,7 @@ counted T b (suc c) p = cond (ended b p) 0 (suc (counted T b c (step T b p)))
 -- "every value it read from outside itself equals" the table's
 abbrev pub matches : Table → List Entry → Bool
 matches T [] = true
-matches T (e ∷ l) = eqZ (T .look (e .object)) (e .value) && matches T l
+matches T (e ∷ l) = eq-z (T .look (e .object)) (e .value) && matches T l
 
 -- the table with a write set over it
 abbrev pub over : List Entry → Table → Table

@@ -2,10 +2,12 @@
 // runs are in specs/. Registers and both sets stand in lent arrays; four counts go by value.
 ghost use mathlib.Core.Path.{_≡_};
 ghost use mathlib.Core.Bool.{true};
-ghost use Prim.Native.Nat.{_≤_};
+ghost use Prim.Native.Nat.{_<_, _≤_};
 ghost use lib.ListN.{length};
+ghost use Rattle.operation.specs.Body.{operations};
 ghost use Rattle.execution.specs.Run as runs;
-ghost use Rattle.execution.specs.Shape.{every, sound};
+ghost use Rattle.execution.specs.Run.{table-of, object-count, is-none, due-at, over};
+ghost use Rattle.execution.specs.RunShape.{every, sound};
 ghost use Rattle.execution.specs.Arrays.{capacity, entries};
 
 // How far a run has come: its program counter and outcome, and how many entries its read set and write set have.
@@ -17,17 +19,28 @@ pub struct Counts {
     pub writes: usize,
 }
 
-// A table's value, 0 past its end.
-fn value_in(table: &[i64], o: usize) -> i64
-    ensures { λ v. ⌜ v ≡ runs.tableOf (now (table .entry)) .look o ⌝ }
+// Whether a run of this body has ended: stopped early, or past the last operation. Of the body its first byte alone is looked at.
+pub fn is_finished(body: &[u8], counter: usize, outcome: usize) -> bool
+    requires { ⌜ 0 < length (now body) ⌝ }
+    ensures { λ r. ⌜ r ≡ is-none (due-at (operations (now (body .entry))) counter outcome) ⌝ }
+{
+    if 0 < outcome {
+        return true;
+    }
+    operation::small(body[0]) <= counter
+}
+
+// A table's value, 0 past its end: total, so that a read set is compared whatever objects it names.
+pub fn value_in(table: &[i64], o: usize) -> i64
+    ensures { λ v. ⌜ v ≡ table-of (now (table .entry)) .look o ⌝ }
 {
     if o < table.len() { table[o] } else { 0 }
 }
 
-// Whether every value that a run read from outside itself is the table's.
+// Whether every value that a run read from outside itself is the table's: all entries passed have it.
 pub fn matches<'a>(table: &[i64], ro: &'a [usize; 16], rv: &'a [i64; 16], count: usize) -> bool
     requires { ⌜ count ≤ capacity ⌝ }
-    ensures { λ r. ⌜ r ≡ runs.matches (runs.tableOf (now (table .entry))) (entries count (now (ro .entry)) (now (rv .entry))) ⌝ }
+    ensures { λ r. ⌜ r ≡ runs.matches (table-of (now (table .entry))) (entries count (now (ro .entry)) (now (rv .entry))) ⌝ }
 {
     let mut k = 0;
     while k < count {
@@ -43,8 +56,9 @@ pub fn matches<'a>(table: &[i64], ro: &'a [usize; 16], rv: &'a [i64; 16], count:
 
 // Lays a write set over a table, the last entry first, so that the first entry of an object counts.
 pub fn overlay<'a>(table: &mut [i64], wo: &'a [usize; 16], wv: &'a [i64; 16], count: usize)
-    requires { ⌜ (count ≤ capacity) × (every (sound (length (now table))) (entries count (now wo) (now wv)) ≡ true) ⌝ }
-    ensures { λ _. ⌜ (runs.tableOf (now (table .exit)) ≡ runs.over (entries count (now (wo .entry)) (now (wv .entry))) (runs.tableOf (now (table .entry)))) × (length (now (table .exit)) ≡ length (now (table .entry))) ⌝ }
+    requires { ⌜ (count ≤ capacity) × (every (sound (object-count (now table))) (entries count (now wo) (now wv)) ≡ true) ⌝ }
+    ensures table { λ _. ⌜ table-of (now (table .exit)) ≡ over (entries count (now (wo .entry)) (now (wv .entry))) (table-of (now (table .entry))) ⌝ }
+    ensures size { λ _. ⌜ object-count (now (table .exit)) ≡ object-count (now (table .entry)) ⌝ }
 {
     let mut i = count;
     while 0 < i {

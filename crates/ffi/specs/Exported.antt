@@ -10,7 +10,7 @@ use Rattle.model.specs.Calls.{Call, Answer, refused, results, numbers, flag}
 use Rattle.model.specs.Limits.{standard}
 use Rattle.layout.specs.Layout.{Areas}
 use Rattle.layout.specs.Act.{act}
-use Rattle.replica.specs.Contract.{Met}
+use Rattle.layout.specs.Contract.{Met}
 use Rattle.ffi.specs.declared.Executed.{Executed}
 use Rattle.ffi.specs.declared.Committed.{Committed}
 use Rattle.ffi.specs.declared.Valued.{Valued}

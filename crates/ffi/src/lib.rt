@@ -6,13 +6,13 @@ use model::Finding;
 use model::Reading;
 use model::Reply;
 ghost use mathlib.Core.Path.{_≡_};
-ghost use Rattle.model.specs.Calls.{opening, optimistic, execute, final, open-reader, read, close-reader, find};
+ghost use Rattle.model.specs.Calls.{by-values, opening, optimistic, execute, final, open-reader, read, close-reader, find};
 ghost use Rattle.model.specs.Limits.{standard};
 ghost use Rattle.model.specs.Answers.{reply, execution, delivery, reading, finding};
 ghost use Rattle.layout.specs.Offsets.{record-length, bodies-length};
 ghost use Rattle.queue.specs.Shown.{part};
 ghost use Rattle.ffi.specs.Exported.{lone, executed, committed, valued, found, Numbered, Exported};
-ghost use Rattle.ffi.specs.ShowBody.{Low, ShownPart};
+ghost use Rattle.ffi.specs.ExportedPart.{Low, ShownPart};
 
 // Work: operations carried out, pending transactions now finished.
 #[repr(C)]
@@ -171,7 +171,8 @@ pub extern "C" fn jobstore_open(
     values: &[i64],
     stamp: u32,
 ) -> u32
-    ensures { λ r. ⌜ Exported (opening n (now (values .entry)) stamp) (now (records .entry), now (bodies .entry)) (lone r) (now (records .exit), now (bodies .exit)) ⌝ }
+    ensures { λ r. ⌜ Exported (opening (by-values n (now (values .entry)) stamp)) (now (records .entry), now (bodies .entry))
+        (lone r) (now (records .exit), now (bodies .exit)) ⌝ }
 {
     reply_number(replica::open(records, bodies, n, values, stamp))
 }
@@ -184,7 +185,8 @@ pub extern "C" fn jobstore_early(
     sequence: u32,
     body: &[u8],
 ) -> u32
-    ensures { λ r. ⌜ Exported (optimistic client sequence (now (body .entry))) (now (records .entry), now (bodies .entry)) (lone r) (now (records .exit), now (bodies .exit)) ⌝ }
+    ensures { λ r. ⌜ Exported (optimistic client sequence (now (body .entry))) (now (records .entry), now (bodies .entry))
+        (lone r) (now (records .exit), now (bodies .exit)) ⌝ }
 {
     reply_number(replica::deliver_optimistic(records, bodies, client, sequence, body))
 }

@@ -1,28 +1,32 @@
-// Final delivery: the refusals, the choice between the early results and a new execution, and the commit, whose parts are `commit`'s.
-use commit::Decision;
+// Final delivery: the refusals, the choice between the early results and a new execution, and the commit.
 use execution::Counts;
 use model::Commit;
 use model::CommitTimestamp;
 use model::Delivery;
 use model::Limits;
+use model::OptimisticPosition;
 ghost use mathlib.Core.Path.{_≡_};
-ghost use mathlib.Core.Bool.{true, _&&_};
-ghost use Prim.Native.Nat.{_≤_, _<_};
+ghost use mathlib.Core.Bool.{true};
+ghost use Prim.Native.Nat.{_<_};
 ghost use lib.ListN.{length};
-ghost use Rattle.operation.specs.Body.{operations};
-ghost use Rattle.execution.specs.Run.{tableOf, is-none, due-at, matches};
-ghost use Rattle.execution.specs.Arrays.{capacity, entries, Room};
+ghost use Rattle.cells.specs.Cells.{cells};
+ghost use Rattle.execution.specs.Arrays.{Room};
 ghost use Rattle.layout.specs.Offsets.{Sane};
 ghost use Rattle.model.specs.Calls.{final};
 ghost use Rattle.model.specs.Answers.{delivery};
 ghost use Rattle.layout.specs.Fit.{fit};
-ghost use Rattle.layout.specs.Act.{act};
-ghost use Rattle.commit.specs.Decide.{Deciding, Decided, decision-of};
-ghost use Rattle.commit.specs.Commit.{Local, Found, Tabled, Answered, commit-at};
-ghost use Rattle.commit.specs.Leave.{at};
+ghost use Rattle.layout.specs.Contract.{Supported, Met};
+ghost use Rattle.final_walk.specs.Places.{Reaching};
+ghost use Rattle.final_walk.specs.Recorded.{Lying, reads-from};
+ghost use Rattle.final_delivery.specs.Decide.{Local, decision-of, Deciding, Decides, CountsAt, valid-at, Rerunning, Reruns};
+ghost use Rattle.final_delivery.specs.Commit.{Found, Commits, Before, NextAfter, Marking, Marks};
 
-// The highest commit timestamp.
-const LAST_TIMESTAMP: u64 = 4_294_967_295;
+// What a final delivery of a transaction comes to: its outcome, whether its early results are kept, and how many objects are stored.
+pub struct Decision {
+    pub outcome: usize,
+    pub validated: bool,
+    pub stored: usize,
+}
 
 fn decided(t: Counts, validated: bool) -> Decision
     ensures { λ r. ⌜ r ≡ decision-of t validated ⌝ }
@@ -34,116 +38,139 @@ fn decided(t: Counts, validated: bool) -> Decision
     }
 }
 
-// Whether a run of this body is finished and every value that it read from outside itself is the table's.
-fn is_validated<'a>(
-    table: &[i64],
-    body: &[u8],
-    ro: &'a [usize; 16],
-    rv: &'a [i64; 16],
-    t: Counts,
-) -> bool
-    requires { ⌜ (t .reads ≤ capacity) × (0 < length (now body)) ⌝ }
-    ensures { λ r. ⌜ r ≡ (is-none (due-at (operations (now (body .entry))) (t .counter) (t .outcome)) && matches (tableOf (now (table .entry))) (entries (t .reads) (now (ro .entry)) (now (rv .entry)))) ⌝ }
+// How far the run in the row at this cell has come.
+fn counts_at(records: &[u8], at: usize) -> Counts
+    requires { ⌜ Lying (now records) at ⌝ }
+    ensures { λ t. ⌜ CountsAt (cells (now (records .entry))) at t ⌝ }
 {
-    if rows::is_finished(body, t) {
-        execution::matches(table, ro, rv, t.reads)
+    let counter = cells::get(records, at + layout::ROW_COUNTER) as usize;
+    let outcome = cells::get(records, at + layout::ROW_OUTCOME) as usize;
+    let reads = cells::get(records, at + layout::ROW_READS) as usize;
+    let total = cells::get(records, at + layout::ROW_ENTRIES) as usize;
+    Counts {
+        counter,
+        outcome,
+        reads,
+        writes: total - reads,
+    }
+}
+
+// Whether the run of this body in the row at this cell is finished and every value that it read from outside itself is the committed one.
+fn is_validated(records: &[u8], at: usize, body: &[u8], t: Counts, places: &[usize; 128]) -> bool
+    requires { ⌜ Lying (now records) at × (0 < length (now body)) ⌝ }
+    requires { ⌜ Reaching (now records) (now places) (reads-from (cells (now records)) at) ⌝ }
+    ensures { λ r. ⌜ r ≡ valid-at (now (records .entry)) (now (places .entry)) (now (body .entry)) t at ⌝ }
+{
+    if execution::is_finished(body, t.counter, t.outcome) {
+        final_walk::reads_match(records, at, places)
     } else {
         false
     }
 }
 
-// The early results of the pending transaction at this position, if they are validated on the table, else its whole run on it.
+// The whole run of this body on the committed state, which is gathered for it. Its write set comes in two arrays.
+fn run_again(
+    records: &[u8],
+    l: Limits,
+    body: &[u8],
+    wo: &mut [usize; 16],
+    wv: &mut [i64; 16],
+) -> Counts
+    requires { ⌜ Sane l × Local l ⌝ }
+    requires { ⌜ Rerunning l (now records) (now body) × Room (now wo) (now wv) ⌝ }
+    ensures { λ t. ⌜ Reruns l (now (records .entry)) (now (body .entry)) t (now (wo .exit)) (now (wv .exit)) ⌝ }
+{
+    let mut values: [i64; 128] = [0; 128];
+    let n = rows::committed_values(records, l, &mut values);
+    let mut ro: [usize; 16] = [0; 16];
+    let mut rv: [i64; 16] = [0; 16];
+    execution_interpreter::run(&values[..n], body, &mut ro, &mut rv, wo, wv)
+}
+
+// The early results of the pending transaction at this position, if they are validated on the committed state, whose places are lent, else its whole
+// run on it. Of a row that is kept only the writes are loaded.
 fn decide(
     records: &[u8],
     bodies: &[u8],
     l: Limits,
-    position: usize,
-    table: &[i64],
+    position: OptimisticPosition,
+    places: &[usize; 128],
     wo: &mut [usize; 16],
     wv: &mut [i64; 16],
 ) -> Decision
-    requires { ⌜ Sane l ⌝ }
-    requires { ⌜ Deciding l (now records) (now bodies) position (now table) × Room (now wo) (now wv) ⌝ }
-    ensures { λ r. ⌜ ((p : Deciding l (now (records .entry)) (now (bodies .entry)) position (now (table .entry))) → Decided (tableOf (now (table .entry))) (at (p .replica .pending) position) r (now (wo .exit)) (now (wv .exit))) ⌝ }
+    requires { ⌜ Sane l × Local l ⌝ }
+    requires { ⌜ Deciding l (now records) (now bodies) (position .0) (now places) × Room (now wo) (now wv) ⌝ }
+    ensures { λ r. ⌜ Decides l (now (records .entry)) (now (bodies .entry)) (position .0) (now (places .entry)) r (now (wo .exit)) (now (wv .exit)) ⌝ }
 {
-    let row = layout::row_at(l, position) * 8;
-    let row_end = row + layout::row_width(l) * 8;
-    let first = layout::body_at(l, position);
-    let operations = bodies[first] as usize;
-    let end = first + 1 + 11 * operations;
+    let i = position.0 as usize;
+    let first = layout::body_at(l, i);
+    let end = first + operation::body_length(bodies[first] as usize);
     let body = &bodies[first..end];
-    let mut registers: [i64; 4] = [0; 4];
-    let mut ro: [usize; 16] = [0; 16];
-    let mut rv: [i64; 16] = [0; 16];
-    let t = rows::load_row(
-        &records[row..row_end],
-        &mut registers,
-        &mut ro,
-        &mut rv,
-        wo,
-        wv,
-    );
-    if is_validated(table, body, &ro, &rv, t) {
+    let at = layout::row_at(l, i);
+    let t = counts_at(records, at);
+    if is_validated(records, at, body, t, places) {
+        let from = at * 8;
+        rows::load_entries(&records[from..], t.reads, t.writes, wo, wv);
         return decided(t, true);
     }
-    let w = interpreter::run(table, body, &mut ro, &mut rv, wo, wv);
-    decided(w, false)
+    let again = run_again(records, l, body, wo, wv);
+    decided(again, false)
 }
 
-// The final delivery of the pending transaction at this position, with the committed state as a table, which it changes.
-fn commit_on(
-    records: &mut [u8],
-    bodies: &mut [u8],
-    l: Limits,
-    position: usize,
-    client: u32,
-    sequence: u32,
-    table: &mut [i64],
-) -> Commit
-    requires { ⌜ Sane l × Local l ⌝ }
-    requires { ⌜ Tabled l (now records) (now bodies) client position (now table) ⌝ }
-    ensures { λ r. ⌜ ((p : Tabled l (now (records .entry)) (now (bodies .entry)) client position (now (table .entry))) → Answered l (now (records .exit)) (now (bodies .exit)) (commit-at (p .replica) client sequence position) r) ⌝ }
+// The commit timestamp that the next commit takes.
+fn next_timestamp(records: &[u8]) -> CommitTimestamp
+    requires { ⌜ Before (now records) ⌝ }
+    ensures { λ r. ⌜ NextAfter (now (records .entry)) (r .0) ⌝ }
 {
-    let mut wo: [usize; 16] = [0; 16];
-    let mut wv: [i64; 16] = [0; 16];
-    let d = decide(records, bodies, l, position, table, &mut wo, &mut wv);
-    let stored = d.stored;
-    let timestamp = cells::get(records, 0) + 1;
-    commit::publish(records, l, timestamp, &wo, &wv, stored);
-    cells::put(records, 0, timestamp);
+    let next = cells::get(records, layout::TIMESTAMP) + 1;
+    CommitTimestamp(next as u32)
+}
+
+// The replica's timestamp and the client's last number after a commit.
+fn mark(records: &mut [u8], l: Limits, timestamp: CommitTimestamp, client: u32, sequence: u32)
+    requires { ⌜ Sane l ⌝ }
+    requires { ⌜ Marking l (now records) client ⌝ }
+    ensures { λ _. ⌜ Marks l (timestamp .0) client sequence (now (records .entry)) (now (records .exit)) ⌝ }
+{
+    cells::put(records, layout::TIMESTAMP, timestamp.0 as u64);
     cells::put(
         records,
         layout::last_at(l, client as usize),
         sequence as u64,
     );
-    requeue::leave(records, bodies, l, client, sequence);
-    execution::overlay(table, &wo, &wv, stored);
-    requeue::walk(records, l, table);
-    Commit {
-        outcome: d.outcome as u32,
-        validated: d.validated,
-        timestamp: CommitTimestamp(timestamp as u32),
-        stored: stored as u32,
-    }
 }
 
-// The same on areas that pass the shape check.
+// The final delivery of the pending transaction at this position. The places of the committed state are those of each object's newest value, before
+// the commit and after it; the walk then goes on with them.
 fn commit_at(
     records: &mut [u8],
     bodies: &mut [u8],
     l: Limits,
-    position: usize,
+    position: OptimisticPosition,
     client: u32,
     sequence: u32,
 ) -> Commit
     requires { ⌜ Sane l × Local l ⌝ }
-    requires { ⌜ Found l (now records) (now bodies) client position ⌝ }
-    ensures { λ r. ⌜ ((p : Found l (now (records .entry)) (now (bodies .entry)) client position) → Answered l (now (records .exit)) (now (bodies .exit)) (commit-at (p .replica) client sequence position) r) ⌝ }
+    requires { ⌜ Found l (now records) (now bodies) client (position .0) ⌝ }
+    ensures { λ r. ⌜ Commits l client sequence (position .0) (now (records .entry)) (now (bodies .entry)) (now (records .exit)) (now (bodies .exit)) r ⌝ }
 {
-    let mut values: [i64; 128] = [0; 128];
-    let n = rows::committed_values(records, l, &mut values);
-    let table = &mut values[..n];
-    commit_on(records, bodies, l, position, client, sequence, table)
+    let mut places: [usize; 128] = [0; 128];
+    final_walk::committed_places(records, l, &mut places);
+    let mut wo: [usize; 16] = [0; 16];
+    let mut wv: [i64; 16] = [0; 16];
+    let d = decide(records, bodies, l, position, &places, &mut wo, &mut wv);
+    let stored = d.stored;
+    let timestamp = next_timestamp(records);
+    final_commit::publish(records, l, timestamp, &wo, &wv, stored);
+    mark(records, l, timestamp, client, sequence);
+    final_requeue::leave(records, bodies, l, client, sequence);
+    final_walk::walk(records, l, &mut places);
+    Commit {
+        outcome: d.outcome as u32,
+        validated: d.validated,
+        timestamp,
+        stored: stored as u32,
+    }
 }
 
 // The final delivery of a key.
@@ -154,24 +181,23 @@ pub fn deliver_final(
     client: u32,
     sequence: u32,
 ) -> Delivery
-    requires { ⌜ Sane l × Local l ⌝ }
+    requires { ⌜ Supported l ⌝ }
     requires { ⌜ fit l (now records, now bodies) ≡ true ⌝ }
-    ensures { λ r. ⌜ delivery r ≡ act l (final client sequence) (now (records .entry), now (bodies .entry)) .0 ⌝ }
-    ensures { λ _. ⌜ (now (records .exit), now (bodies .exit)) ≡ act l (final client sequence) (now (records .entry), now (bodies .entry)) .1 ⌝ }
+    ensures { λ r. ⌜ Met l (final client sequence) (now (records .entry), now (bodies .entry))
+        (delivery r) (now (records .exit), now (bodies .exit)) ⌝ }
 {
-    if queue::CLIENTS <= client {
+    if model::CLIENTS <= client {
         return Delivery::Refused(3);
     }
-    let last = cells::get(records, layout::last_at(l, client as usize));
-    if sequence as u64 <= last {
+    if queue::is_spent(records, l, client, sequence) {
         return Delivery::Refused(4);
     }
     let place = queue::locate(records, l, client, sequence);
     let position = place.position;
-    if place.count <= position {
+    if place.count <= position.0 as usize {
         return Delivery::Refused(8);
     }
-    if LAST_TIMESTAMP <= cells::get(records, 0) {
+    if model::LAST_TIMESTAMP <= cells::get(records, layout::TIMESTAMP) {
         return Delivery::Refused(9);
     }
     let done = commit_at(records, bodies, l, position, client, sequence);

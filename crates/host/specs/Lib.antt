@@ -1,6 +1,6 @@
 -- The definitions and laws of what the host lends, lowest first.
 pub mod Counting
-pub mod Restart
-pub mod Laws
-pub mod Correspondence
-pub mod Examples
+pub mod HostRestart
+pub mod RestartLaws
+pub mod HostReplica
+pub mod HostExamples

@@ -1,8 +1,9 @@
 // Thin forms for the cabinet's host, over records that it lends: the counters of a replica, and the pending transactions as a list.
 // Each takes a record apart for a covered function and stores what that returned; every branch stands in a covered function.
+use model::LAST_TIMESTAMP;
 ghost use mathlib.Core.Path.{_≡_};
-ghost use Rattle.host.specs.Counting.{nextTimestamp, deliveryNumber, delivered, finishedCount, workNumber, worked};
-ghost use Rattle.host.specs.Restart.{notBegun, restartedFrom};
+ghost use Rattle.host.specs.Counting.{timestamp-after, number-of-delivery, delivered, finished-after, worked};
+ghost use Rattle.host.specs.HostRestart.{unbegun, restarted-behind};
 
 #[repr(C)]
 pub struct Counters {
@@ -15,9 +16,9 @@ pub struct Counters {
 
 // The commit timestamp after one delivery; the highest stays.
 fn next_timestamp(timestamp: u32) -> u32
-    ensures { λ r. ⌜ r ≡ nextTimestamp timestamp ⌝ }
+    ensures { λ r. ⌜ r ≡ timestamp-after timestamp ⌝ }
 {
-    if timestamp == 4294967295 {
+    if timestamp as u64 == LAST_TIMESTAMP {
         return timestamp;
     }
     timestamp + 1
@@ -25,15 +26,19 @@ fn next_timestamp(timestamp: u32) -> u32
 
 // 0 where a delivery can be counted, 9 at the highest timestamp.
 fn delivery_number(timestamp: u32) -> u32
-    ensures { λ r. ⌜ r ≡ deliveryNumber timestamp ⌝ }
+    ensures { λ r. ⌜ r ≡ number-of-delivery timestamp ⌝ }
 {
-    if timestamp == 4294967295 { 9 } else { 0 }
+    if timestamp as u64 == LAST_TIMESTAMP {
+        9
+    } else {
+        0
+    }
 }
 
 // One delivery counted: the timestamp up by 1, the other counts as before; at the highest timestamp 9 and no change.
 #[no_mangle]
 pub extern "C" fn jobstore_count_delivery(c: &mut Counters) -> u32
-    ensures { λ r. ⌜ (r ≡ deliveryNumber (now (c .entry) .timestamp)) × (now (c .exit) ≡ delivered (now (c .entry))) ⌝ }
+    ensures { λ r. ⌜ (r ≡ number-of-delivery (now (c .entry) .timestamp)) × (now (c .exit) ≡ delivered (now (c .entry))) ⌝ }
 {
     let timestamp = c.timestamp;
     c.timestamp = next_timestamp(timestamp);
@@ -42,7 +47,7 @@ pub extern "C" fn jobstore_count_delivery(c: &mut Counters) -> u32
 
 // The number of finished transactions after work; one above the pending ones is not taken.
 fn finished_count(pending: u32, before: u32, finished: u32) -> u32
-    ensures { λ r. ⌜ r ≡ finishedCount pending before finished ⌝ }
+    ensures { λ r. ⌜ r ≡ finished-after pending before finished ⌝ }
 {
     if pending < finished {
         return before;
@@ -50,21 +55,13 @@ fn finished_count(pending: u32, before: u32, finished: u32) -> u32
     finished
 }
 
-// 0 where so many of the pending transactions can be finished, else 1.
-fn work_number(pending: u32, finished: u32) -> u32
-    ensures { λ r. ⌜ r ≡ workNumber pending finished ⌝ }
-{
-    if pending < finished { 1 } else { 0 }
-}
-
-// Work counted: so many pending transactions are now finished, as work answered. More than are pending gets 1 and no change.
+// Work counted: so many pending transactions are now finished, as work answered. More than are pending changes nothing.
 #[no_mangle]
-pub extern "C" fn jobstore_count_work(c: &mut Counters, finished: u32) -> u32
-    ensures { λ r. ⌜ (r ≡ workNumber (now (c .entry) .pending) finished) × (now (c .exit) ≡ worked (now (c .entry)) finished) ⌝ }
+pub extern "C" fn jobstore_count_work(c: &mut Counters, finished: u32)
+    ensures { λ _. ⌜ now (c .exit) ≡ worked (now (c .entry)) finished ⌝ }
 {
     let pending = c.pending;
     c.finished = finished_count(pending, c.finished, finished);
-    work_number(pending, finished)
 }
 
 // A pending transaction ("job record"): a row of the record area, line by line.
@@ -85,7 +82,7 @@ pub struct PendingTransaction {
 
 // A transaction that is not begun: its key and zeros.
 fn not_begun(client: u32, sequence: u32) -> PendingTransaction
-    ensures { λ r. ⌜ r ≡ notBegun client sequence ⌝ }
+    ensures { λ r. ⌜ r ≡ unbegun client sequence ⌝ }
 {
     let registers = [0i64; 4];
     let objects = [0u8; 16];
@@ -106,7 +103,7 @@ fn not_begun(client: u32, sequence: u32) -> PendingTransaction
 // From a place in the list on, each goes back to its start. A place past the last changes nothing.
 #[no_mangle]
 pub extern "C" fn jobstore_restart_from(rows: &mut [PendingTransaction], place: usize)
-    ensures { λ _. ⌜ now (rows .exit) ≡ restartedFrom place (now (rows .entry)) ⌝ }
+    ensures { λ _. ⌜ now (rows .exit) ≡ restarted-behind place (now (rows .entry)) ⌝ }
 {
     let mut i = place;
     while i < rows.len() {

@@ -2,36 +2,27 @@
 use mathlib.Core.Bool.{Bool, cond}
 use mathlib.Core.List.{List, [], _∷_}
 use Rattle.model.specs.declared.Limits.{Limits}
-use Rattle.model.specs.Calls.{Call, opening, optimistic, execute, final, open-reader, read, close-reader, find, show-body, Answer, refused, body, refusal, judged}
+use Rattle.model.specs.Interface.{Call, opening, update, query, read, find, show-body, Answer, refused}
+use Rattle.model.specs.Calls.{body, refusal, judged}
 use Rattle.model.specs.Replica.{Replica, facts, perform}
 use Rattle.layout.specs.Layout.{Areas, parse, print, lengths}
 use Rattle.layout.specs.Fit.{fit}
 
 -- what a call asks of the areas; an opening looks at their lengths alone
 abbrev pub asked : Limits → Call → Areas → Bool
-asked l (opening n vs t) a = lengths l a
-asked l (optimistic c s b) a = fit l a
-asked l (execute k) a = fit l a
-asked l (final c s) a = fit l a
-asked l (open-reader r) a = fit l a
-asked l (read r o) a = fit l a
-asked l (close-reader r) a = fit l a
-asked l (find c s) a = fit l a
-asked l (show-body c s) a = fit l a
+asked l (opening o) a = lengths l a
+asked l (update c) a = fit l a
+asked l (query q) a = fit l a
 
 -- the answer where the areas are not as asked: 1; of Show body "the empty part exactly when Find refuses"
 abbrev pub unfit : Call → Answer
-unfit (opening n vs t) = refused 1
-unfit (optimistic c s b) = refused 1
-unfit (execute k) = refused 1
-unfit (final c s) = refused 1
-unfit (open-reader r) = refused 1
-unfit (read r o) = refused 1
-unfit (close-reader r) = refused 1
-unfit (find c s) = refused 1
-unfit (show-body c s) = body []
+unfit (opening o) = refused 1
+unfit (update c) = refused 1
+unfit (query (read r o)) = refused 1
+unfit (query (find c s)) = refused 1
+unfit (query (show-body c s)) = body []
 
-abbrev pub printed : Limits → Answer × Replica → Answer × Areas
+abbrev pub printed : {A : Type 0} → Limits → A × Replica → A × Areas
 printed l r = (r .0, print l (r .1))
 
 -- a call on areas: a refusal leaves them as they are

@@ -8,15 +8,18 @@ use lib.IntN.{ℤ}
 use lib.ListN.{length}
 use Rattle.cells.specs.Cells.{Below}
 use Rattle.model.specs.declared.Limits.{Limits}
-use Rattle.model.specs.Calls.{Call, opening, optimistic, execute, final, open-reader, read, close-reader, find, show-body, Answer, refused, done, seen, causes, refusal, judged}
+use Rattle.model.specs.Interface.{Opening, by-values, Query, Call, opening, update, query, Yield, Answer, refused, yielded}
+use Rattle.model.specs.Calls.{done, seen, Facts, refusal, judged}
+use Rattle.model.specs.Start.{start-of}
 use Rattle.model.specs.Serial as serial
 use Rattle.model.specs.Serial.{Serial}
 use Rattle.model.specs.Replica.{Replica, newest, facts, perform, opened, call, calls}
 use Rattle.model.specs.ListLaws.{All}
-use Rattle.model.specs.Refusals.{opening-accepted}
+use Rattle.model.specs.Refusals.{opening-judged, opening-accepted}
+use Rattle.model.specs.Queries.{query-same}
 use Rattle.model.specs.ShapeCheck.{shaped}
 use Rattle.model.specs.ShapeKept.{Typed, call-shaped, opening-shaped}
-use Rattle.model.specs.Serializability.{Serializable, demand-3}
+use Rattle.model.specs.Serializability.{Serializable, demand-3-on-states}
 use Rattle.layout.specs.Layout.{Areas, parse, print, lengths}
 use Rattle.layout.specs.Offsets.{Sane}
 use Rattle.layout.specs.Fit.{fit, fit-says, fit-back, parse-print, fit-print}
@@ -33,7 +36,7 @@ module _ (l : Limits) (c : Call) (a : Areas) where
   unfolding act
   act-refused k e f = rw (e, f)
 
-  pub act-accepted : asked l c a ≡ true → refusal l (facts (parse l a)) c ≡ 0 → act l c a ≡ printed l (perform l (parse l a) c)
+  pub act-accepted : asked l c a ≡ true → refusal l (facts (parse l a)) c ≡ 0 → act l c a ≡ (yielded (perform l (parse l a) c .0), print l (perform l (parse l a) c .1))
   unfolding act
   act-accepted e f = rw (e, f)
 
@@ -43,18 +46,12 @@ not-done k e = let z : _≡_ {A = ℕ} 0 1 = cc in omega arith
 -- ---- areas that pass the check: the model's call
 
 fit-asked : (l : Limits) (c : Call) (a : Areas) → fit l a ≡ true → asked l c a ≡ true
-fit-asked l (opening n vs t) a f = fit-says l a f .lengths
-fit-asked l (optimistic c s b) a f = f
-fit-asked l (execute k) a f = f
-fit-asked l (final c s) a f = f
-fit-asked l (open-reader r) a f = f
-fit-asked l (read r o) a f = f
-fit-asked l (close-reader r) a f = f
-fit-asked l (find c s) a f = f
-fit-asked l (show-body c s) a f = f
+fit-asked l (opening o) a f = fit-says l a f .lengths
+fit-asked l (update c) a f = f
+fit-asked l (query q) a f = f
 
 -- judged on the areas or on the replica: the same
-judged-print : (l : Limits) (u : Replica) (r : Answer × Replica) (k : ℕ) → judged (print l u) (printed l r) k ≡ printed l (judged u r k)
+judged-print : (l : Limits) (u : Replica) (r : Yield × Replica) (k : ℕ) → judged (print l u) (printed l r) k ≡ printed l (judged u r k)
 judged-print l u r zero = refl
 judged-print l u r (suc k) = refl
 
@@ -76,6 +73,17 @@ module _ (l : Limits) (s : Sane l) where
       let p = parse-print l s u e in
       act-call l c (print l u) (fit-print l s u e) (ap (print l) p) ∙ ap (λ (v : Replica). printed l (call l v c)) p
 
+  -- a query leaves both areas as they are, whatever they are
+  pub act-query : (q : Query) (a : Areas) → Below 256 (a .0) → act l (query q) a .1 ≡ a
+  act-query q a x = go′ (fit l a) refl
+    where
+      go′ : (b : Bool) → fit l a ≡ b → act l (query q) a .1 ≡ a
+      go′ true f =
+          ap (λ (r : Answer × Areas). r .1) (act-fit (query q) a x f)
+          ∙ ap (print l) (query-same l (parse l a) q)
+          ∙ fit-back l s a x f
+      go′ false f = ap (λ (r : Answer × Areas). r .1) (act-unfit l (query q) a f)
+
   -- ---- lists of calls
 
   pub acts-print : (cs : List Call) (u : Replica) → shaped l u ≡ true → All Typed cs → acts l cs (print l u) ≡ (calls l u cs .0, print l (calls l u cs .1))
@@ -91,63 +99,65 @@ module _ (l : Limits) (s : Sane l) where
 
   -- ---- an opening that is accepted on areas with any contents
 
-  module _ (n : ℕ) (vs : List ℤ) (t : ℕ) (a : Areas) where
-    -- it is accepted on areas of the right lengths
-    pub opening-done : lengths l a ≡ true → 1 ≤ n → n ≤ l .objects → length vs ≡ n → act l (opening n vs t) a .0 ≡ done
+  -- an opening by values within the limits is accepted on areas of the right lengths
+  pub opening-done : (n : ℕ) (vs : List ℤ) (t : ℕ) (a : Areas) → lengths l a ≡ true → 1 ≤ n → n ≤ l .objects → length vs ≡ n → act l (opening (by-values n vs t)) a .0 ≡ done
+  unfolding act perform
+  opening-done n vs t a h some most m = rw (h, opening-accepted l (facts (parse l a)) n vs t some most m)
+
+  module _ (o : Opening) (a : Areas) (ok : act l (opening o) a .0 ≡ done) where
+    abbrev pub begun : Replica
+    begun = opened l (start-of o)
+
+    -- it is accepted there alone, and whether it is refused does not depend on what a replica holds
+    pub accepted : (lengths l a ≡ true) × ((f : Facts) → refusal l f (opening o) ≡ 0)
+    unfolding act
+    accepted = go′ (lengths l a) (refusal l (facts (parse l a)) (opening o)) refl refl ok
+      where
+        go′ : (b : Bool) (k : ℕ) → lengths l a ≡ b → refusal l (facts (parse l a)) (opening o) ≡ k
+            → cond b (judged a (printed l (perform l (parse l a) (opening o))) k) (unfit (opening o), a) .0 ≡ done → (lengths l a ≡ true) × ((f : Facts) → refusal l f (opening o) ≡ 0)
+        go′ true zero h e y = (h, λ f. opening-judged l f (facts (parse l a)) o ∙ e)
+        go′ true (suc k) h e y = absurd (not-done (suc k) y)
+        go′ false k h e y = absurd (not-done 1 y)
+
+    pub act-open : act l (opening o) a ≡ (done, print l begun)
     unfolding act perform
-    opening-done h some most m = rw (h, opening-accepted l (facts (parse l a)) n vs t some most m)
+    act-open = rw (accepted .0, accepted .1 (facts (parse l a)))
 
-    module _ (ok : act l (opening n vs t) a .0 ≡ done) where
-      -- only there, and whether it is refused does not depend on what a replica holds
-      accepted : (lengths l a ≡ true) × ((u : Replica) → refusal l (facts u) (opening n vs t) ≡ 0)
-      unfolding act refusal causes
-      accepted = go′ (lengths l a) (refusal l (facts (parse l a)) (opening n vs t)) refl refl ok
-        where
-          go′ : (b : Bool) (k : ℕ) → lengths l a ≡ b → refusal l (facts (parse l a)) (opening n vs t) ≡ k → cond b (judged a (printed l (perform l (parse l a) (opening n vs t))) k) (unfit (opening n vs t), a) .0 ≡ done → (lengths l a ≡ true) × ((u : Replica) → refusal l (facts u) (opening n vs t) ≡ 0)
-          go′ true zero h e o = (h, λ u. e)
-          go′ true (suc k) h e o = absurd (not-done (suc k) o)
-          go′ false k h e o = absurd (not-done 1 o)
+    module _ (typed : Typed (opening o)) (cs : List Call) (g : All Typed cs) where
+      pub start : shaped l begun ≡ true
+      start = opening-shaped l (facts (parse l a)) o typed (accepted .1 (facts (parse l a)))
 
-      pub act-open : act l (opening n vs t) a ≡ (done, print l (opened l vs t))
-      unfolding act perform
-      act-open = rw (accepted .0, accepted .1 (parse l a))
+      pub acts-open : acts l (opening o ∷ cs) a ≡ (done ∷ calls l begun cs .0, print l (calls l begun cs .1))
+      unfolding acts
+      acts-open = rw (act-open, acts-print cs begun start g)
 
-      module _ (typed : Typed (opening n vs t)) (cs : List Call) (g : All Typed cs) where
-        pub start : shaped l (opened l vs t) ≡ true
-        start = opening-shaped l (facts (parse l a)) n vs t typed (accepted .1 (parse l a))
+      calls-open : (u : Replica) → calls l u (opening o ∷ cs) ≡ (done ∷ calls l begun cs .0, calls l begun cs .1)
+      unfolding calls call perform
+      calls-open u = rw (accepted .1 (facts u))
 
-        pub acts-open : acts l (opening n vs t ∷ cs) a ≡ (done ∷ calls l (opened l vs t) cs .0, print l (calls l (opened l vs t) cs .1))
-        unfolding acts
-        acts-open = rw (act-open, acts-print cs (opened l vs t) start g)
+      -- the list on the areas is the list on the model, whatever replica the model starts from
+      pub acts-calls : (u : Replica) → acts l (opening o ∷ cs) a ≡ (calls l u (opening o ∷ cs) .0, print l (calls l u (opening o ∷ cs) .1))
+      acts-calls u = acts-open ∙ sym (ap (λ (r : List Answer × Replica). (r .0, print l (r .1))) (calls-open u))
 
-        calls-open : (u : Replica) → calls l u (opening n vs t ∷ cs) ≡ (done ∷ calls l (opened l vs t) cs .0, calls l (opened l vs t) cs .1)
-        unfolding calls call perform
-        calls-open u = rw (accepted .1 u)
+      pub acts-parse : (u : Replica) → parse l (acts l (opening o ∷ cs) a .1) ≡ calls l u (opening o ∷ cs) .1
+      acts-parse u =
+          ap (λ (r : List Answer × Areas). parse l (r .1)) acts-open
+          ∙ parse-print l s (calls l begun cs .1) (calls-shaped cs begun start g)
+          ∙ sym (ap (λ (r : List Answer × Replica). r .1) (calls-open u))
 
-        -- the list on the areas is the list on the model, whatever replica the model starts from
-        pub acts-calls : (u : Replica) → acts l (opening n vs t ∷ cs) a ≡ (calls l u (opening n vs t ∷ cs) .0, print l (calls l u (opening n vs t ∷ cs) .1))
-        acts-calls u = acts-open ∙ sym (ap (λ (r : List Answer × Replica). (r .0, print l (r .1))) (calls-open u))
+      -- the areas after the list pass the check
+      pub acts-fit : fit l (acts l (opening o ∷ cs) a .1) ≡ true
+      acts-fit =
+          ap (λ (r : List Answer × Areas). fit l (r .1)) acts-open ∙ fit-print l s (calls l begun cs .1) (calls-shaped cs begun start g)
 
-        pub acts-parse : (u : Replica) → parse l (acts l (opening n vs t ∷ cs) a .1) ≡ calls l u (opening n vs t ∷ cs) .1
-        acts-parse u =
-            ap (λ (r : List Answer × Areas). parse l (r .1)) acts-open
-            ∙ parse-print l s (calls l (opened l vs t) cs .1) (calls-shaped cs (opened l vs t) start g)
-            ∙ sym (ap (λ (r : List Answer × Replica). r .1) (calls-open u))
-
-        -- the areas after the list pass the check
-        pub acts-fit : fit l (acts l (opening n vs t ∷ cs) a .1) ≡ true
-        acts-fit =
-            ap (λ (r : List Answer × Areas). fit l (r .1)) acts-open ∙ fit-print l s (calls l (opened l vs t) cs .1) (calls-shaped cs (opened l vs t) start g)
-
-        -- DEMAND 3 on the areas: the answers of every list that starts with an accepted opening, on areas with any contents, and the committed
-        -- table that the areas say after it, are the serial table's, whatever the serial table held before
-        pub demand-3-areas : (p : Serial) → Serializable (acts l (opening n vs t ∷ cs) a .0, parse l (acts l (opening n vs t ∷ cs) a .1)) (serial.calls l p (opening n vs t ∷ cs))
-        demand-3-areas p =
-            let u = opened l vs t in
-            let d = demand-3 l n vs t cs u p (accepted .1 u) in
-            let e = acts-parse u in
-            record {
-              answers = ap (λ (r : List Answer × Areas). map seen (r .0)) (acts-calls u) ∙ d .answers;
-              objects = ap (λ (v : Replica). map newest (v .objects)) e ∙ d .objects;
-              timestamp = ap (λ (v : Replica). v .timestamp) e ∙ d .timestamp;
-            }
+      -- DEMAND 3 on the areas: the answers of every list that starts with an accepted opening, on areas with any contents, and the committed
+      -- table that the areas say after it, are the serial table's, whatever the serial table held before
+      pub serializable-on-areas : (p : Serial) → Serializable (acts l (opening o ∷ cs) a .0, parse l (acts l (opening o ∷ cs) a .1)) (serial.calls l p (opening o ∷ cs))
+      serializable-on-areas p =
+          let d = demand-3-on-states l o cs begun p (accepted .1 (facts begun)) in
+          let e = acts-parse begun in
+          record {
+            answers = ap (λ (r : List Answer × Areas). map seen (r .0)) (acts-calls begun) ∙ d .answers;
+            objects = ap (λ (v : Replica). map newest (v .objects)) e ∙ d .objects;
+            timestamp = ap (λ (v : Replica). v .timestamp) e ∙ d .timestamp;
+          }

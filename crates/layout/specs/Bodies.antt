@@ -5,24 +5,23 @@ use mathlib.Core.List.{List, [], _∷_, _++_, map, map-append, append-nil}
 use Prim.Native.Nat.{ℕ, _+_, _-_, _*_, _≤_, _<_}
 use native.Mathlib.Omega.{arith}
 use native.Mathlib.Nat.{mul-le-mul-right, sub-zero, zero-add, add-zero}
-use lib.ListN.{length, take, drop, getD, replicate, length-append, length-drop, length-map, List·getD-map}
+use lib.ListN.{length, take, drop, getD, length-append, length-map, List·getD-map}
 use lib.Seq.{take-at, take-length, drop-length}
 use borrow.Rule.Slice.PartMut.{putMid, midOf}
-use Rattle.cells.specs.Cells.{splice}
-use Rattle.operation.specs.Body.{size}
+use Rattle.operation.specs.Body.{size, body-length}
 use Rattle.model.specs.declared.Limits.{Limits}
 use Rattle.model.specs.Replica.{Pending, Replica}
-use Rattle.model.specs.ListLaws.{All, all-in, map-take, map-drop, getD-map-in}
-use Rattle.layout.specs.Rows.{flat, table, blank, padTo}
-use Rattle.layout.specs.RowLaws.{split-rows, rest-rows, drop-blank, table-length, table-full, row-read, take-out}
+use Rattle.model.specs.ListLaws.{All, all-in, map-take, getD-map-in}
+use Rattle.layout.specs.Rows.{flat, table, blank, pad-to}
+use Rattle.layout.specs.RowLaws.{drop-blank, table-length, table-full, row-read}
 use Rattle.layout.specs.Codec.{Codec}
 use Rattle.layout.specs.Layout.{row-of, body-of, body}
 use Rattle.layout.specs.Offsets.{Sane, body-width, body-at}
 use Rattle.layout.specs.Lawful.{Sized, sized, uniform}
 use Rattle.layout.specs.Printable.{BodyFits, Printable, lawful-body, few-pending}
 use Rattle.layout.specs.Field.{mid-mid, mid-at, put-put}
-use Rattle.layout.specs.Tables.{rows-places, rows-replace}
-use Rattle.layout.specs.Holds.{HoldsBodies, with-pending, bodies-long}
+use Rattle.layout.specs.TableChanges.{rows-places, rows-replace}
+use Rattle.layout.specs.Holds.{HoldsBodies, with-pending}
 
 module _ (l : Limits) (s : Sane l) (b : List ℕ) (u : Replica) (h : HoldsBodies l b u) where
   abbrev c : Codec (List ℕ)
@@ -47,7 +46,7 @@ module _ (l : Limits) (s : Sane l) (b : List ℕ) (u : Replica) (h : HoldsBodies
     fits =
         subst (BodyFits (l .operations)) (List·getD-map body-of (u .pending) i d) (all-in (BodyFits (l .operations)) (map body-of (u .pending)) i (body-of d) (h .fits .bodies) (omega (arith, count)))
 
-    place : midOf (body-at l i) (body-width l) b ≡ padTo (body-width l) bytes
+    place : midOf (body-at l i) (body-width l) b ≡ pad-to (body-width l) bytes
     place =
         ap (midOf (body-at l i) (body-width l)) (h .same)
         ∙ ap (λ (a : ℕ). midOf a (body-width l) (table (l .pending) (body-width l) (map (c .enc) (map body-of (u .pending))))) (sym (zero-add (body-at l i)))
@@ -57,7 +56,7 @@ module _ (l : Limits) (s : Sane l) (b : List ℕ) (u : Replica) (h : HoldsBodies
 
     -- "the very bytes of the body area that hold it, of its own length"
     pub body-part : midOf (body-at l i) (length bytes) b ≡ bytes
-    unfolding padTo
+    unfolding pad-to
     body-part =
         let z : body-at l i ≡ body-at l i + 0 = omega arith in
         ap (λ (a : ℕ). midOf a (length bytes) b) z
@@ -73,19 +72,8 @@ module _ (l : Limits) (s : Sane l) (b : List ℕ) (u : Replica) (h : HoldsBodies
         ∙ sym (mid-at b (body-at l i) (length bytes) 0 (omega (arith, fits .0)))
         ∙ ap (λ (x : List ℕ). getD x 0 0) body-part
 
-    pub body-span : length bytes ≡ 1 + 11 * size bytes
+    pub body-span : length bytes ≡ body-length (size bytes)
     body-span = fits .0
-
-  -- the places from i on
-  pub bodies-part : (i : ℕ) → i ≤ length (u .pending) → midOf (body-at l i) ((length (u .pending) - i) * body-width l) b ≡ flat (map (body (l .operations) .enc) (map body-of (drop i (u .pending))))
-  bodies-part i low =
-      let n = length (u .pending) in
-      let rs = drop i (map body-of (u .pending)) in
-      ap (midOf (body-at l i) ((n - i) * body-width l)) (h .same)
-      ∙ ap (λ (a : ℕ). midOf a ((n - i) * body-width l) (table (l .pending) (body-width l) (map (c .enc) (map body-of (u .pending))))) (sym (zero-add (body-at l i)))
-      ∙ rows-places even (l .pending) (map body-of (u .pending)) (h .fits .bodies) i n (omega (arith, count)) (omega (arith, count)) few 0 [] refl
-      ∙ table-full (body-width l) (map (c .enc) rs) (n - i) (length-map rs (c .enc) ∙ length-drop i (map body-of (u .pending)) ∙ ap (λ (j : ℕ). j - i) count)
-      ∙ ap (λ (x : List (List ℕ)). flat (map (c .enc) x)) (sym (map-drop body-of i (u .pending)))
 
   -- ---- writing
 
@@ -107,27 +95,10 @@ module _ (l : Limits) (s : Sane l) (b : List ℕ) (u : Replica) (h : HoldsBodies
         fits = g;
       }
 
-  -- body i taken out: the places behind it move down, and zeros come into the one that this frees
-  pub remove-body : (i : ℕ) → i < length (u .pending) → Printable l (with-pending (take i (u .pending) ++ drop (i + 1) (u .pending)) u)
-      → (ys zs : List ℕ) → ys ≡ splice b (body-at l i) (take ((length (u .pending) - (i + 1)) * body-width l) (drop (body-at l (i + 1)) b)) → zs ≡ splice ys (body-at l (length (u .pending) - 1)) (replicate (body-width l) 0)
-      → HoldsBodies l zs (with-pending (take i (u .pending) ++ drop (i + 1) (u .pending)) u)
-  remove-body i k g ys zs ey ez =
-      let n = length (u .pending) in
-      let w = body-width l in
-      let a = body-at l i in
-      let js = drop (i + 1) (u .pending) in
-      let rs = map (c .enc) (map body-of js) in
-      let d : length js ≡ n - (i + 1) = length-drop (i + 1) (u .pending) in
-      let (t, q) = rest-rows i n w k in
-      let long : a + (n - i) * w ≤ length b = omega (arith, bodies-long l s b u h, split-rows n i w (omega arith), mul-le-mul-right w few) in
-      let e : zs ≡ putMid a ((n - i) * w) b (table (n - i) w rs) =
-      take-out w i n b rs a (body-at l (i + 1)) (body-at l (n - 1)) k (length-map (map body-of js) (c .enc) ∙ length-map js body-of ∙ d) long (omega arith) q (bodies-part (i + 1) (omega arith)) ys zs ey ez in
-      replace-bodies i n (omega arith) (omega arith) few js (omega arith) g zs e
-
   -- one more, into the first unused place
   pub append-body : (j : Pending) → Printable l (with-pending (u .pending ++ (j ∷ [])) u) → (ys : List ℕ) → ys ≡ putMid (body-at l (length (u .pending))) (length (body-of j)) b (body-of j)
       → HoldsBodies l ys (with-pending (u .pending ++ (j ∷ [])) u)
-  unfolding padTo table flat
+  unfolding pad-to table flat
   append-body j g ys e =
       let n = length (u .pending) in
       let w = body-width l in
@@ -136,7 +107,9 @@ module _ (l : Limits) (s : Sane l) (b : List ℕ) (u : Replica) (h : HoldsBodies
       let one : n + 1 - n ≡ 1 = omega arith in
       let wide : (n + 1 - n) * w ≡ w = ap (λ (k : ℕ). k * w) one ∙ omega arith in
       let fit : BodyFits (l .operations) x = last-fits (u .pending) (g .bodies) in
-      let whole : length b ≡ l .pending * w = ap length (h .same) ∙ table-length (l .pending) w (map (c .enc) (map body-of (u .pending))) (uniform even (map body-of (u .pending)) (h .fits .bodies)) (omega (arith, few, length-map (map body-of (u .pending)) (c .enc), count)) in
+      let whole : length b ≡ l .pending * w =
+      ap length (h .same)
+      ∙ table-length (l .pending) w (map (c .enc) (map body-of (u .pending))) (uniform even (map body-of (u .pending)) (h .fits .bodies)) (omega (arith, few, length-map (map body-of (u .pending)) (c .enc), count)) in
       let none : drop n (map body-of (u .pending)) ≡ [] = ap (λ (k : ℕ). drop k (map body-of (u .pending))) (sym count) ∙ drop-length (map body-of (u .pending)) in
       let free : midOf (body-at l n) w b ≡ blank w =
       ap₂ (λ (k : ℕ) (z : List ℕ). midOf (body-at l n) k z) (sym wide) (h .same)

@@ -7,7 +7,7 @@ use lib.Dec.{leb}
 use Rattle.cells.specs.Cells.{cells, uncells}
 use Rattle.model.specs.Lists.{all}
 use Rattle.cells.specs.Zeros.{zeros}
-use Rattle.layout.specs.Rows.{chunks, table, padTo}
+use Rattle.layout.specs.Rows.{chunks, table, pad-to}
 
 -- `ok` says which blocks are one that `enc` writes
 pub record Codec (A : Type 0) : Type 0 where
@@ -64,12 +64,12 @@ abbrev pub padded : ℕ → (ℕ → ℕ) → Codec (List ℕ)
 padded p f =
     record {
       size = p;
-      enc = λ a. padTo p a;
+      enc = λ a. pad-to p a;
       dec = λ b. take (f (getD b 0 0)) b;
       ok = λ b. leb (f (getD b 0 0)) p && zeros (drop (f (getD b 0 0)) b);
     }
 
 -- cells in an area of bytes
-abbrev pub inBytes : {A : Type 0} → Codec A → Codec A
-inBytes c =
+abbrev pub bytewise : {A : Type 0} → Codec A → Codec A
+bytewise c =
     record { size = c .size * 8; enc = λ a. uncells (c .enc a); dec = λ b. c .dec (cells b); ok = λ b. c .ok (cells b) }

@@ -11,13 +11,13 @@ use lib.ListN.{length}
 use borrow.Author.Tests.{eq-eqb, le-leb, lt-ltb}
 use Rattle.cells.specs.Cells.{Below}
 use Rattle.arith.specs.Integer.{fits}
-use Rattle.operation.specs.Body.{registerCount, wellFormed}
+use Rattle.operation.specs.Body.{register-count, is-well-formed}
 use Rattle.execution.specs.Entries.{Entry}
 use Rattle.execution.specs.Run.{Run}
-use Rattle.execution.specs.Shape.{every, all-fit}
+use Rattle.execution.specs.RunShape.{every, all-fit}
 use Rattle.model.specs.declared.Limits.{Limits}
 use Rattle.model.specs.Lists.{all}
-use Rattle.model.specs.Calls.{Transaction, clients, lastTimestamp}
+use Rattle.model.specs.Calls.{Transaction, clients, last-timestamp}
 use Rattle.model.specs.Serial.{Version}
 use Rattle.model.specs.Replica.{Pending, Replica, opens}
 use Rattle.model.specs.ListLaws.{All}
@@ -38,10 +38,10 @@ core l u =
     && all (λ r. leb r (u .timestamp)) (opens (u .readers))
     && distinct-keys (sents (u .pending))
     && all (key-unspent (u .lasts)) (sents (u .pending))
-    && all (λ (s : Transaction). wellFormed (l .operations) n (s .bytes)) (sents (u .pending))
+    && all (λ (s : Transaction). is-well-formed (l .operations) n (s .bytes)) (sents (u .pending))
     && in-order true (u .pending)
     && all (λ (j : Pending). run-shaped n (size-of j) (j .run)) (u .pending)
-    && (leb (u .timestamp) lastTimestamp && all (λ s. ltb s (2 ^ 32)) (u .lasts))
+    && (leb (u .timestamp) last-timestamp && all (λ s. ltb s (2 ^ 32)) (u .lasts))
 
 -- ---- what the encoding gives
 
@@ -68,7 +68,7 @@ unfolding run-encoded
 run-true m p g =
     let r = g .1 .1 .0 in
     let e = g .1 .1 .1 in
-    rw (eq-eqb (length (p .registers)) registerCount (r .0), all-fit-true (p .registers) (r .1), every-true (p .reads) (e .1), every-true (p .writes) (e .2))
+    rw (eq-eqb (length (p .registers)) register-count (r .0), all-fit-true (p .registers) (r .1), every-true (p .reads) (e .1), every-true (p .writes) (e .2))
 
 module _ (m : ℕ) where
   runs : (js : List Pending) → All (RowFits m) (map row-of js) → all (λ (j : Pending). run-encoded (j .run)) js ≡ true

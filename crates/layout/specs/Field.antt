@@ -12,7 +12,7 @@ use Rattle.cells.specs.Cells.{uncells}
 use Rattle.cells.specs.Uncells.{length-uncells, uncells-part, uncells-back}
 use Rattle.model.specs.ListLaws.{All, map-set, all-in, all-set, getD-map-in}
 use Rattle.layout.specs.RowLaws.{put-seam, mid-seam, table-length, row-read, row-write}
-use Rattle.layout.specs.Codec.{Codec, pair, array, counted, inBytes}
+use Rattle.layout.specs.Codec.{Codec, pair, array, counted, bytewise}
 pub use Rattle.layout.specs.Lawful.{Sized, sized, uniform}
 
 -- ---- a part of a part
@@ -192,7 +192,7 @@ module _ {A B : Type 0} {c : Codec A} {P : A → Type 0} {f : Codec B} {Q : B �
 -- ---- cells in bytes
 
 -- a block of cells as a part of the area
-abbrev pub in-bytes : {A B : Type 0} {c : Codec A} {P : A → Type 0} {f : Codec B} {Q : B → Type 0} → Field c P f Q → Field (inBytes c) P (inBytes f) Q
+abbrev pub in-bytes : {A B : Type 0} {c : Codec A} {P : A → Type 0} {f : Codec B} {Q : B → Type 0} → Field c P f Q → Field (bytewise c) P (bytewise f) Q
 in-bytes {c} {f} x = record {
   at = x .at * 8;
   get = x .get;

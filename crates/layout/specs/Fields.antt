@@ -4,18 +4,18 @@ use mathlib.Core.Option.{none}
 use mathlib.Core.List.{List, []}
 use Prim.Native.Nat.{ℕ, _≤_, _<_}
 use native.Mathlib.Omega.{arith}
-use lib.ListN.{length}
-use Rattle.operation.specs.Body.{registerCount}
+use lib.ListN.{length, length-map}
+use Rattle.operation.specs.Body.{register-count}
 use Rattle.model.specs.declared.Limits.{Limits}
-use Rattle.model.specs.Limits.{standard}
 use Rattle.model.specs.Calls.{clients}
 use Rattle.model.specs.Serial.{Version}
+use Rattle.model.specs.Replica.{Replica}
 use Rattle.model.specs.ListLaws.{All}
-use Rattle.layout.specs.Codec.{cell, array, counted}
-use Rattle.layout.specs.Layout.{reader, Row, row, Record, object, record-cells, record-area, body, body-area}
+use Rattle.layout.specs.Codec.{cell, pair, array, counted}
+use Rattle.layout.specs.Layout.{reader, Row, row, Front, RecordArea, object, front, tail, record-cells, record-area, body-area, row-of, record-of}
 use Rattle.layout.specs.Offsets.{Sane, last-at, reader-at, size-at, object-width, object-at, pending-at, row-width, row-at, record-length, bodies-length}
 use Rattle.layout.specs.Lawful.{Sized, sized, Word, lawful-cell, lawful-rows}
-use Rattle.layout.specs.Printable.{ReaderFits, RowFits, LastsFit, ReadersFit, ObjectFits, ObjectsFit, RowsFit, lawful-reader, lawful-row, lawful-object, lawful-objects, lawful-rows-of}
+use Rattle.layout.specs.Printable.{ReaderFits, RowFits, LastsFit, ReadersFit, ObjectFits, ObjectsFit, RowsFit, TailFits, Printable, lawful-reader, lawful-row, lawful-object, lawful-objects, lawful-rows-of}
 use Rattle.layout.specs.Field.{narrow, Field, _▸_, first, second, sized-pair, sized-counted, row-in, item}
 
 pub one-word : Sized cell Word
@@ -23,9 +23,12 @@ one-word = record { len = λ a h. refl }
 
 -- ---- the record area, with what is known of its objects and its rows
 
-abbrev pub With : Limits → (List (List Version) → Type 0) → (List Row → Type 0) → Record → Type 0
-With l O Q r =
-    Word (r .0) × (LastsFit (r .1 .0) × (ReadersFit (l .readers) (r .1 .1 .0) × (O (r .1 .1 .1 .0) × Q (r .1 .1 .1 .1))))
+abbrev pub FrontWith : Limits → (List (List Version) → Type 0) → (List Row → Type 0) → Front → Type 0
+FrontWith l O Q f =
+    Word (f .0) × (LastsFit (f .1 .0) × (ReadersFit (l .readers) (f .1 .1 .0) × (O (f .1 .1 .1 .0) × Q (f .1 .1 .1 .1))))
+
+abbrev pub With : Limits → (List (List Version) → Type 0) → (List Row → Type 0) → RecordArea → Type 0
+With l O Q r = FrontWith l O Q (r .0) × TailFits l (r .1)
 
 pub some-lasts : Sized (array clients cell) LastsFit
 some-lasts = sized (lawful-rows lawful-cell (omega arith) clients clients (omega arith))
@@ -33,25 +36,37 @@ some-lasts = sized (lawful-rows lawful-cell (omega arith) clients clients (omega
 pub some-readers : (l : Limits) → Sized (array (l .readers) reader) (ReadersFit (l .readers))
 some-readers l = sized (lawful-rows lawful-reader (omega arith) (l .readers) (l .readers) (omega arith))
 
+pub some-tail : (l : Limits) → Sized (tail l) (TailFits l)
+some-tail l = sized (lawful-rows lawful-cell (omega arith) 0 0 (omega arith))
+
 module _ (l : Limits) {O : List (List Version) → Type 0} {Q : List Row → Type 0} (o : Sized (counted (l .objects) (object l)) O) (q : Sized (counted (l .pending) (row (l .operations))) Q) where
+  -- what stands behind each part of the front
+  abbrev behind-readers : Sized (pair (counted (l .objects) (object l)) (counted (l .pending) (row (l .operations)))) (λ x. O (x .0) × Q (x .1))
+  behind-readers = sized-pair o q
+
+  abbrev behind-lasts : Sized (pair (array (l .readers) reader) (pair (counted (l .objects) (object l)) (counted (l .pending) (row (l .operations))))) (λ x. ReadersFit (l .readers) (x .0) × (O (x .1 .0) × Q (x .1 .1)))
+  behind-lasts = sized-pair (some-readers l) behind-readers
+
+  abbrev pub front-field : Field (record-cells l) (With l O Q) (front l) (FrontWith l O Q)
+  front-field = first (sized-pair one-word (sized-pair some-lasts behind-lasts)) (some-tail l)
+
   abbrev pub timestamp-field : Field (record-cells l) (With l O Q) cell Word
-  timestamp-field = first one-word (sized-pair some-lasts (sized-pair (some-readers l) (sized-pair o q)))
+  timestamp-field = front-field ▸ first one-word (sized-pair some-lasts behind-lasts)
 
   abbrev pub lasts-field : Field (record-cells l) (With l O Q) (array clients cell) LastsFit
-  lasts-field =
-      second one-word (sized-pair some-lasts (sized-pair (some-readers l) (sized-pair o q))) ▸ first some-lasts (sized-pair (some-readers l) (sized-pair o q))
+  lasts-field = front-field ▸ second one-word (sized-pair some-lasts behind-lasts) ▸ first some-lasts behind-lasts
 
   abbrev pub readers-field : Field (record-cells l) (With l O Q) (array (l .readers) reader) (ReadersFit (l .readers))
   readers-field =
-      second one-word (sized-pair some-lasts (sized-pair (some-readers l) (sized-pair o q))) ▸ second some-lasts (sized-pair (some-readers l) (sized-pair o q)) ▸ first (some-readers l) (sized-pair o q)
+      front-field ▸ second one-word (sized-pair some-lasts behind-lasts) ▸ second some-lasts behind-lasts ▸ first (some-readers l) behind-readers
 
   abbrev pub objects-field : Field (record-cells l) (With l O Q) (counted (l .objects) (object l)) O
   objects-field =
-      second one-word (sized-pair some-lasts (sized-pair (some-readers l) (sized-pair o q))) ▸ second some-lasts (sized-pair (some-readers l) (sized-pair o q)) ▸ second (some-readers l) (sized-pair o q) ▸ first o q
+      front-field ▸ second one-word (sized-pair some-lasts behind-lasts) ▸ second some-lasts behind-lasts ▸ second (some-readers l) behind-readers ▸ first o q
 
   abbrev pub rows-field : Field (record-cells l) (With l O Q) (counted (l .pending) (row (l .operations))) Q
   rows-field =
-      second one-word (sized-pair some-lasts (sized-pair (some-readers l) (sized-pair o q))) ▸ second some-lasts (sized-pair (some-readers l) (sized-pair o q)) ▸ second (some-readers l) (sized-pair o q) ▸ second o q
+      front-field ▸ second one-word (sized-pair some-lasts behind-lasts) ▸ second some-lasts behind-lasts ▸ second (some-readers l) behind-readers ▸ second o q
 
   abbrev pub last-field : (c : ℕ) → c < clients → Field (record-cells l) (With l O Q) cell Word
   last-field c h = lasts-field ▸ item one-word clients c 0 h
@@ -80,6 +95,16 @@ ObjectThere l i xs = (length xs ≤ l .objects) × All (ObjectFits (l .readers))
 abbrev pub RowThere : Limits → ℕ → List Row → Type 0
 RowThere l i xs = (length xs ≤ l .pending) × All (RowFits (l .operations)) xs × (i < length xs)
 
+-- of a replica that the areas can hold
+module _ (l : Limits) (u : Replica) (g : Printable l u) (i : ℕ) where
+  pub object-there : i < length (u .objects) → With l (ObjectThere l i) (RowsFit l) (record-of u)
+  object-there k =
+      ((g .timestamp, (g .lasts, (g .readers, ((g .objects .0, g .objects .1, k), g .rows)))), g .tail)
+
+  pub row-there : i < length (u .pending) → With l (ObjectsFit l) (RowThere l i) (record-of u)
+  row-there k =
+      ((g .timestamp, (g .lasts, (g .readers, (g .objects, (g .rows .0, g .rows .1, omega (arith, length-map (u .pending) row-of)))))), g .tail)
+
 module _ (l : Limits) (s : Sane l) (i : ℕ) where
   abbrev pub object-field : i < l .objects → Field (record-cells l) (With l (ObjectThere l i) (RowsFit l)) (object l) (ObjectFits (l .readers))
   object-field h =
@@ -92,13 +117,8 @@ module _ (l : Limits) (s : Sane l) (i : ℕ) where
 -- ---- sizes and offsets, as the code computes them
 
 pub sizes : (l : Limits) → (object l .size ≡ object-width l) × (row (l .operations) .size ≡ row-width l) × (record-area l .size ≡ record-length l) × (body-area l 0 .size ≡ bodies-length l)
-unfolding clients registerCount
+unfolding clients register-count
 sizes l = (omega arith, omega arith, omega arith, refl)
-
--- 3,514 cells, and 32 places of 177 bytes
-pub standard-sizes : (record-cells standard .size ≡ 3514) × (record-area standard .size ≡ 28112) × (body-area standard 0 .size ≡ 5664) × (body (standard .operations) .size ≡ 177)
-unfolding standard clients registerCount
-standard-sizes = (refl, refl, refl, refl)
 
 module _ (l : Limits) (s : Sane l) where
   pub table-offsets : (objects-field l (sized-objects l s) (sized-rows l s) .at ≡ size-at l) × (rows-field l (sized-objects l s) (sized-rows l s) .at ≡ pending-at l)
@@ -117,5 +137,5 @@ module _ (l : Limits) (s : Sane l) where
   object-offset i h = omega arith
 
   pub row-offset : (i : ℕ) (h : i < l .pending) (d : Row) → row-field l s i h d .at ≡ row-at l i
-  unfolding clients registerCount
+  unfolding clients register-count
   row-offset i h d = omega arith

@@ -13,14 +13,14 @@ use lib.ListN.{length, length-map}
 use borrow.Author.Tests.{eq-eqb, leb-true, ltb-true, eqb-true}
 use Rattle.cells.specs.Cells.{Below}
 use Rattle.arith.specs.Integer.{fits}
-use Rattle.operation.specs.Body.{wellFormed}
-use Rattle.operation.specs.Laws.{Formed, formed}
+use Rattle.operation.specs.Body.{is-well-formed}
+use Rattle.operation.specs.BodyLaws.{Formed, formed}
 use Rattle.execution.specs.Entries.{Entry}
-use Rattle.execution.specs.Agreement.{both}
-use Rattle.execution.specs.Shape.{every, all-fit}
+use Rattle.execution.specs.ReadAgreement.{both}
+use Rattle.execution.specs.RunShape.{every, all-fit}
 use Rattle.model.specs.declared.Limits.{Limits}
 use Rattle.model.specs.Lists.{any, all}
-use Rattle.model.specs.Calls.{clients, lastTimestamp, Transaction}
+use Rattle.model.specs.Calls.{clients, last-timestamp, Transaction}
 use Rattle.model.specs.Serial.{Version}
 use Rattle.model.specs.Replica.{Pending, Replica, opens}
 use Rattle.model.specs.ListLaws.{All, or-right}
@@ -87,14 +87,15 @@ versions t h (v ∷ vs) e f =
     let (b, b′) = both (fits (v .value)) (all (λ (v : Version). fits (v .value)) vs) f in
     ((omega (arith, leb-true (v .stamp) t a), value (v .value) b), versions t h vs a′ b′)
 
-objects : (t n : ℕ) (rs : List ℕ) → t < 2 ^ 64 → (xs : List (List Version)) → All (λ (vs : List Version). length vs ≤ suc n) xs → All (VersionsShape t rs) xs → All (λ vs. all (λ (v : Version). fits (v .value)) vs ≡ true) xs → All (ObjectFits n) xs
+objects : (t n : ℕ) (rs : List ℕ) → t < 2 ^ 64 → (xs : List (List Version)) → All (λ (vs : List Version). length vs ≤ suc n) xs → All (VersionsShape t rs) xs
+    → All (λ vs. all (λ (v : Version). fits (v .value)) vs ≡ true) xs → All (ObjectFits n) xs
 objects t n rs h [] k v f = tt
 objects t n rs h (x ∷ xs) k v f =
     ((k .0, versions t h x (v .0 .bound) (f .0)), objects t n rs h xs (k .1) (v .1) (f .1))
 
 module _ (l : Limits) (s : Sane l) (n : ℕ) (few : n ≤ l .objects) (lasts : List ℕ) where
   abbrev Bodied : Transaction → Type 0
-  Bodied x = wellFormed (l .operations) n (x .bytes) ≡ true
+  Bodied x = is-well-formed (l .operations) n (x .bytes) ≡ true
 
   run : (j : Pending) → Formed (l .operations) n (j .sent .bytes) → Standing (size-of j) (j .run) → Sets n (j .run) → RunEncoded (j .run) → RunFits (l .operations) (j .run)
   run j b k e c =
@@ -103,10 +104,12 @@ module _ (l : Limits) (s : Sane l) (n : ℕ) (few : n ≤ l .objects) (lasts : L
       let i = k .within in
       let r = b .most in
       let small : n < 2 ^ 64 = omega arith in
-      (omega arith, (omega (arith, k .outcome), ((c .count, values (j .run .registers) (c .registers)), (omega (arith, e .room), entries n small (j .run .reads) (e .reads .below) (c .reads), entries n small (j .run .writes) (e .writes .below) (c .writes)))))
+      let reads = entries n small (j .run .reads) (e .reads .below) (c .reads) in
+      let writes = entries n small (j .run .writes) (e .writes .below) (c .writes) in
+      (omega arith, (omega (arith, k .outcome), ((c .count, values (j .run .registers) (c .registers)), (omega (arith, e .room), reads, writes))))
 
-  rows : (js : List Pending) → All (Unspent lasts) (sents js) → All (λ (x : Transaction). x .sequence < 2 ^ 32) (sents js) → All Bodied (sents js) → All State js → All (λ (j : Pending). Sets n (j .run)) js → All (λ (j : Pending). RunEncoded (j .run)) js
-      → All (RowFits (l .operations)) (map row-of js)
+  rows : (js : List Pending) → All (Unspent lasts) (sents js) → All (λ (x : Transaction). x .sequence < 2 ^ 32) (sents js) → All Bodied (sents js)
+      → All State js → All (λ (j : Pending). Sets n (j .run)) js → All (λ (j : Pending). RunEncoded (j .run)) js → All (RowFits (l .operations)) (map row-of js)
   unfolding clients
   rows [] k q b o e c = tt
   rows (j ∷ js) k q b o e c =
@@ -120,16 +123,18 @@ module _ (l : Limits) (s : Sane l) (n : ℕ) (few : n ≤ l .objects) (lasts : L
 
 module _ (l : Limits) (s : Sane l) (u : Replica) where
   pub shape-fits : Shape l u → Printable l u
-  unfolding lastTimestamp
+  unfolding last-timestamp
   shape-fits k =
       let n = length (u .objects) in
       let t = k .encoded .timestamp in
+      let all-rows = rows l s n (k .few-objects) (u .lasts) (u .pending) (k .unspent) (k .encoded .sequences) (k .bodies) (in-order-states (u .pending) (k .order)) (k .sets) (k .encoded .runs) in
       record {
         timestamp = omega arith;
         lasts = (k .encoded .last-count, all-says (λ x. ltb x (2 ^ 32)) Word (λ x e. omega (arith, ltb-true x (2 ^ 32) e)) (u .lasts) (k .encoded .lasts));
         readers = (k .encoded .reader-count, readers (u .timestamp) (omega arith) (u .readers) (k .readers));
         objects = (k .few-objects, objects (u .timestamp) (l .readers) (opens (u .readers)) (omega arith) (u .objects) (k .few-versions) (k .versions) (k .encoded .values));
-        rows = (omega (arith, k .few-pending, length-map (u .pending) row-of), rows l s n (k .few-objects) (u .lasts) (u .pending) (k .unspent) (k .encoded .sequences) (k .bodies) (in-order-states (u .pending) (k .order)) (k .sets) (k .encoded .runs));
+        rows = (omega (arith, k .few-pending, length-map (u .pending) row-of), all-rows);
+        tail = (refl, tt);
         bodies = bodies l s n (k .few-objects) (u .lasts) (u .pending) (k .bodies);
       }
 

@@ -1,16 +1,15 @@
 -- What code knows of an area while it works on it: which replica it holds. Reading.antt and Writing.antt have the laws. Assumes nothing.
-use mathlib.Core.Path.{_≡_, refl, sym, ap, _∙_}
+use mathlib.Core.Path.{_≡_, sym, ap, _∙_}
 use mathlib.Core.Bool.{true}
-use mathlib.Core.Option.{Option}
 use mathlib.Core.List.{List}
 use Prim.Native.Nat.{ℕ, _^_}
 use native.Mathlib.Omega.{arith}
 use lib.ListN.{length, length-map}
 use Rattle.cells.specs.Cells.{cells, Below}
-use Rattle.cells.specs.Laws.{cells-uncells}
+use Rattle.cells.specs.CellLaws.{cells-uncells}
 use Rattle.model.specs.declared.Limits.{Limits}
-use Rattle.model.specs.Serial.{Version}
-use Rattle.model.specs.Replica.{Pending, Replica}
+use Rattle.model.specs.Replica.{Replica}
+pub use Rattle.model.specs.Replica.{with-timestamp, with-objects, with-lasts, with-pending, with-readers}
 use Rattle.layout.specs.Layout.{record-cells, record-area, body-area, body-of, record-of, bodies-of, Areas, parse, print, lengths, laid}
 use Rattle.layout.specs.Offsets.{Sane, record-length, bodies-length}
 use Rattle.layout.specs.Lawful.{all-below}
@@ -33,28 +32,6 @@ pub record Held (l : Limits) (b : List ℕ) : Type 0 where
   pub replica : Replica
   pub holds : Holds l b replica
 
--- ---- one field of a replica changed
-
-abbrev pub with-timestamp : ℕ → Replica → Replica
-with-timestamp t u =
-    record { timestamp = t; objects = u .objects; lasts = u .lasts; pending = u .pending; readers = u .readers }
-
-abbrev pub with-objects : List (List Version) → Replica → Replica
-with-objects x u =
-    record { timestamp = u .timestamp; objects = x; lasts = u .lasts; pending = u .pending; readers = u .readers }
-
-abbrev pub with-lasts : List ℕ → Replica → Replica
-with-lasts x u =
-    record { timestamp = u .timestamp; objects = u .objects; lasts = x; pending = u .pending; readers = u .readers }
-
-abbrev pub with-pending : List Pending → Replica → Replica
-with-pending x u =
-    record { timestamp = u .timestamp; objects = u .objects; lasts = u .lasts; pending = x; readers = u .readers }
-
-abbrev pub with-readers : List (Option ℕ) → Replica → Replica
-with-readers x u =
-    record { timestamp = u .timestamp; objects = u .objects; lasts = u .lasts; pending = u .pending; readers = x }
-
 -- ---- from areas that pass the layout's check, and back
 
 module _ (l : Limits) (s : Sane l) (a : Areas) (x : Below 256 (a .0)) (n : lengths l a ≡ true) (o : laid l a ≡ true) where
@@ -72,10 +49,6 @@ module _ (l : Limits) (b c : List ℕ) (u : Replica) where
   pub holds-print : Holds l b u → HoldsBodies l c u → (b, c) ≡ print l u
   unfolding print
   holds-print h k = let p = h .same in let q = k .same in λ i. (p i, q i)
-
-pub print-holds : (l : Limits) (u : Replica) → Printable l u → Holds l (print l u .0) u × HoldsBodies l (print l u .1) u
-unfolding print
-print-holds l u g = (record { same = refl; fits = g }, record { same = refl; fits = g })
 
 pub bodies-long : (l : Limits) (s : Sane l) (b : List ℕ) (u : Replica) → HoldsBodies l b u → length b ≡ bodies-length l
 bodies-long l s b u h =

@@ -11,14 +11,14 @@ use lib.Dec.{leb}
 use borrow.Author.Tests.{le-leb, leb-true}
 use Rattle.cells.specs.Cells.{cells, uncells, Below}
 use Rattle.cells.specs.Uncells.{length-uncells}
-use Rattle.cells.specs.Laws.{length-cells, uncells-cells, cells-uncells, cells-below, uncells-below}
-use Rattle.execution.specs.Agreement.{both}
+use Rattle.cells.specs.CellLaws.{length-cells, uncells-cells, cells-uncells, cells-below, uncells-below}
+use Rattle.execution.specs.ReadAgreement.{both}
 use Rattle.model.specs.Lists.{all}
 use Rattle.model.specs.ListLaws.{All, all-join, all-take, all-drop}
 use Rattle.cells.specs.Zeros.{zeros, zeros-replicate, zeros-true}
-use Rattle.layout.specs.Rows.{flat, chunks, table, blank, padTo}
+use Rattle.layout.specs.Rows.{flat, chunks, table, blank, pad-to}
 use Rattle.layout.specs.RowLaws.{Uniform, length-chunks, uniform-chunks, table-chunks, table-length, table-pad, chunks-table}
-use Rattle.layout.specs.Codec.{Codec, cell, pair, via, rows, counted, padded, inBytes}
+use Rattle.layout.specs.Codec.{Codec, cell, pair, via, rows, counted, padded, bytewise}
 
 -- K holds of each number of a block, as "below 256" of bytes; Good values are those that can be written
 pub record Lawful (K : ℕ → Type 0) {A : Type 0} (c : Codec A) (Good : A → Type 0) : Type 0 where
@@ -210,7 +210,7 @@ module _ (K : ℕ → Type 0) (p : ℕ) (f : ℕ → ℕ) (pos : K 0) (first : (
   head-pad (x ∷ a) z h = refl
 
   pub lawful-padded : Lawful K (padded p f) (Padded K p f)
-  unfolding padTo
+  unfolding pad-to
   lawful-padded = record {
     len = λ a h. omega (arith, length-append a (blank (p - length a)), length-replicate {A = ℕ} (p - length a) 0, h .1);
     small = λ a h. all-join K a (blank (p - length a)) (h .2) (all-blank K pos (p - length a));
@@ -250,7 +250,7 @@ module _ {A : Type 0} {c : Codec A} {P : A → Type 0} (u : Lawful Word c P) whe
   cells-word : (b : List ℕ) → All Byte b → All Word (cells b)
   cells-word b s = below-all (2 ^ 64) (cells b) (cells-below b (all-below 256 b (omega arith) s))
 
-  pub lawful-bytes : Lawful Byte (inBytes c) P
+  pub lawful-bytes : Lawful Byte (bytewise c) P
   lawful-bytes = record {
     len = λ a h. omega (arith, length-uncells (c .enc a), u .len a h);
     small = λ a h. uncells-byte (c .enc a);

@@ -3,20 +3,22 @@
 use mathlib.Core.Bool.{Bool, true, _&&_}
 use mathlib.Core.Option.{Option, none, some}
 use mathlib.Core.List.{List, [], _∷_, _++_, map}
-use Prim.Native.Nat.{ℕ, zero, suc, _+_, _*_, _/_, _%_, _^_}
+use Prim.Native.Nat.{ℕ, suc, _+_, _*_, _/_, _%_, _^_}
 use lib.IntN.{ℤ}
 use lib.ListN.{length, take, drop, getD}
 use lib.Dec.{eqb, leb}
 use mir.Syntax.{w64}
 use mir.Val.{toZ, ofZ}
-use Rattle.operation.specs.Body.{registerCount}
+use Rattle.operation.specs.Body.{register-count, body-length}
 use Rattle.execution.specs.Entries.{Entry}
 use Rattle.execution.specs.Run.{Run}
 use Rattle.model.specs.declared.Limits.{Limits}
 use Rattle.model.specs.Calls.{clients}
 use Rattle.model.specs.Serial.{Version}
 use Rattle.model.specs.Replica.{Pending, Replica}
-use Rattle.layout.specs.Codec.{Codec, cell, pair, via, rows, array, counted, padded, inBytes}
+use Rattle.versions.specs.Block.{width, held-in, block, framed}
+pub use Rattle.versions.specs.Block.{reader-of}
+use Rattle.layout.specs.Codec.{Codec, cell, pair, via, rows, array, counted, padded, bytewise}
 
 -- ---- one cell
 
@@ -25,10 +27,6 @@ abbrev pub signed : Codec ℤ
 signed = via (toZ w64) (ofZ w64) (λ x. true) cell
 
 -- a reader: 0 closed, else its timestamp + 1
-abbrev pub reader-of : ℕ → Option ℕ
-reader-of zero = none
-reader-of (suc s) = some s
-
 abbrev pub of-reader : Option ℕ → ℕ
 of-reader none = 0
 of-reader (some s) = suc s
@@ -46,16 +44,7 @@ of-key x = x .0 * 2 ^ 32 + x .1
 abbrev pub key : Codec (ℕ × ℕ)
 key = via key-of of-key (λ x. true) cell
 
--- ---- versions, entries, runs
-
-abbrev pub version-of : ℕ × ℤ → Version
-version-of x = record { stamp = x .0; value = x .1 }
-
-abbrev pub of-version : Version → ℕ × ℤ
-of-version v = (v .stamp, v .value)
-
-abbrev pub version : Codec Version
-version = via version-of of-version (λ x. true) (pair cell signed)
+-- ---- entries, runs
 
 abbrev pub entry-of : ℕ × ℤ → Entry
 entry-of x = record { object = x .0; value = x .1 }
@@ -92,7 +81,7 @@ of-run p = (p .counter, (p .outcome, (p .registers, (p .reads, p .writes))))
 
 abbrev pub run : ℕ → Codec Run
 run m =
-    via run-of of-run (λ x. true) (pair cell (pair cell (pair (array registerCount signed) (two m entry))))
+    via run-of of-run (λ x. true) (pair cell (pair cell (pair (array register-count signed) (two m entry))))
 
 -- ---- the record area
 
@@ -103,25 +92,36 @@ Row = (ℕ × ℕ) × Run
 abbrev pub row : ℕ → Codec Row
 row m = pair key (run m)
 
--- timestamp, last numbers, readers, objects with their versions, rows
-abbrev pub Record : Type 0
-Record = ℕ × (List ℕ × (List (Option ℕ) × (List (List Version) × List Row)))
+-- the front: timestamp, last numbers, readers, objects with their versions, rows
+abbrev pub Front : Type 0
+Front = ℕ × (List ℕ × (List (Option ℕ) × (List (List Version) × List Row)))
 
+-- the tail, behind the rows: a new table goes here, and no offset of the front moves; there is none so far
+abbrev pub Tail : Type 0
+Tail = List ℕ
+
+-- what the record area holds
+abbrev pub RecordArea : Type 0
+RecordArea = Front × Tail
+
+-- an object's versions, in a block as the crate `versions` defines it
 abbrev pub object : Limits → Codec (List Version)
-object l = counted (suc (l .readers)) version
+object l = record { size = width (l .readers); enc = block (l .readers); dec = held-in; ok = framed (l .readers) }
 
-abbrev pub record-cells : Limits → Codec Record
-record-cells l =
+abbrev pub front : Limits → Codec Front
+front l =
     pair cell (pair (array clients cell) (pair (array (l .readers) reader) (pair (counted (l .objects) (object l)) (counted (l .pending) (row (l .operations))))))
 
-abbrev pub record-area : Limits → Codec Record
-record-area l = inBytes (record-cells l)
+abbrev pub tail : Limits → Codec Tail
+tail l = array 0 cell
+
+abbrev pub record-cells : Limits → Codec RecordArea
+record-cells l = pair (front l) (tail l)
+
+abbrev pub record-area : Limits → Codec RecordArea
+record-area l = bytewise (record-cells l)
 
 -- ---- the body area: "32 places of 177 bytes in optimistic order; unused bytes are 0"
-
--- "The length is exactly 1 + 11m."
-abbrev pub body-length : ℕ → ℕ
-body-length m = 1 + 11 * m
 
 abbrev pub body : ℕ → Codec (List ℕ)
 body m = padded (body-length m) body-length
@@ -146,15 +146,22 @@ abbrev pub all-from : List Row → List (List ℕ) → List Pending
 all-from [] bs = []
 all-from (r ∷ rs) bs = pending-from r (getD bs 0 []) ∷ all-from rs (drop 1 bs)
 
-abbrev pub record-of : Replica → Record
-record-of u = (u .timestamp, (u .lasts, (u .readers, (u .objects, map row-of (u .pending)))))
+abbrev pub front-of : Replica → Front
+front-of u = (u .timestamp, (u .lasts, (u .readers, (u .objects, map row-of (u .pending)))))
+
+abbrev pub tail-of : Replica → Tail
+tail-of u = []
+
+abbrev pub record-of : Replica → RecordArea
+record-of u = (front-of u, tail-of u)
 
 abbrev pub bodies-of : Replica → List (List ℕ)
 bodies-of u = map body-of (u .pending)
 
-abbrev pub replica-from : Record → List (List ℕ) → Replica
+abbrev pub replica-from : RecordArea → List (List ℕ) → Replica
 replica-from r bs =
-    record { timestamp = r .0; objects = r .1 .1 .1 .0; lasts = r .1 .0; pending = all-from (r .1 .1 .1 .1) bs; readers = r .1 .1 .0 }
+    let f : Front = r .0 in
+    record { timestamp = f .0; objects = f .1 .1 .1 .0; lasts = f .1 .0; pending = all-from (f .1 .1 .1 .1) bs; readers = f .1 .1 .0 }
 
 -- ---- parse and print
 
@@ -162,12 +169,12 @@ replica-from r bs =
 abbrev pub Areas : Type 0
 Areas = List ℕ × List ℕ
 
-abbrev pub row-count : Record → ℕ
-row-count r = length (r .1 .1 .1 .1)
+abbrev pub row-count : RecordArea → ℕ
+row-count r = length (r .0 .1 .1 .1 .1)
 
 unfoldable pub parse : Limits → Areas → Replica
 parse l a =
-    let r : Record = record-area l .dec (a .0) in
+    let r : RecordArea = record-area l .dec (a .0) in
     replica-from r (body-area l (row-count r) .dec (a .1))
 
 unfoldable pub print : Limits → Replica → Areas

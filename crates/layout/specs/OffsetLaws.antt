@@ -63,8 +63,8 @@ module _ (l : Limits) (s : Sane l) where
   pub front-cell : (i : ℕ) → i ≤ size-at l → CellAt l i i
   front-cell i h = record { exact = refl; inside = omega arith; small = record-small }
 
-  pub object-cell : (i : ℕ) → i ≤ l .objects → (w : ℕ) → w ≡ object-width l → CellAt l (object-at l i) (18 + l .readers + i * w)
-  object-cell i h w e =
+  pub object-cell : (i : ℕ) → i ≤ l .objects → (n w : ℕ) → n ≡ size-at l → w ≡ object-width l → CellAt l (object-at l i) (1 + n + i * w)
+  object-cell i h n w d e =
       let a = object-product i h .0 in
       let q = ap (λ (k : ℕ). i * k) e in
       record { exact = omega arith; inside = omega arith; small = record-small }
@@ -82,12 +82,6 @@ module _ (l : Limits) (s : Sane l) where
       record { exact = q; inside = omega arith; small = omega arith }
 
 -- ---- what is there lies in its area as a whole
-
-pub object-room : (l : Limits) (i : ℕ) → i < l .objects → (object-at l i + object-width l) * 8 ≤ record-length l
-object-room l i h = omega (arith, mul-le-mul-right (object-width l) h)
-
-pub row-room : (l : Limits) (i : ℕ) → i < l .pending → (row-at l i + row-width l) * 8 ≤ record-length l
-row-room l i h = omega (arith, mul-le-mul-right (row-width l) h)
 
 pub body-room : (l : Limits) (i : ℕ) → i < l .pending → body-at l i + body-width l ≤ bodies-length l
 body-room l i h = omega (arith, mul-le-mul-right (body-width l) h)

@@ -2,7 +2,9 @@
 -- Assumes nothing.
 use mathlib.Core.Path.{_≡_}
 use Prim.Native.Nat.{ℕ, _+_, _*_, _^_, _≤_}
+use Rattle.operation.specs.Body.{body-length}
 use Rattle.model.specs.declared.Limits.{Limits}
+use Rattle.versions.specs.Block.{width}
 
 -- limits for which no offset overflows, and every count fits in a cell
 pub record Sane (l : Limits) : Type 0 where
@@ -21,27 +23,35 @@ reader-at r = 17 + r
 
 -- the number of objects
 abbrev pub size-at : Limits → ℕ
-size-at l = 17 + l .readers
+size-at l = reader-at (l .readers)
 
 abbrev pub object-width : Limits → ℕ
-object-width l = 3 + 2 * l .readers
+object-width l = width (l .readers)
 
 abbrev pub object-at : Limits → ℕ → ℕ
-object-at l i = 18 + l .readers + i * object-width l
+object-at l i = 1 + size-at l + i * object-width l
 
 -- the number of pending transactions
 abbrev pub pending-at : Limits → ℕ
 pending-at l = object-at l (l .objects)
 
+-- the cells of a row with room for m entries
+abbrev pub row-cells : ℕ → ℕ
+row-cells m = 9 + 2 * m
+
 abbrev pub row-width : Limits → ℕ
-row-width l = 9 + 2 * l .operations
+row-width l = row-cells (l .operations)
 
 abbrev pub row-at : Limits → ℕ → ℕ
 row-at l i = 1 + pending-at l + i * row-width l
 
--- in bytes
+-- the tail: where the rows end
+abbrev pub tail-at : Limits → ℕ
+tail-at l = row-at l (l .pending)
+
+-- in bytes; the tail is empty
 abbrev pub record-length : Limits → ℕ
-record-length l = row-at l (l .pending) * 8
+record-length l = tail-at l * 8
 
 -- ---- an object's block
 
@@ -74,7 +84,7 @@ entry-at j = 9 + j * 2
 -- ---- the body area
 
 abbrev pub body-width : Limits → ℕ
-body-width l = 1 + 11 * l .operations
+body-width l = body-length (l .operations)
 
 abbrev pub body-at : Limits → ℕ → ℕ
 body-at l i = i * body-width l

@@ -12,7 +12,7 @@ use borrow.Author.Tests.{le-leb, leb-true}
 use mir.Syntax.{w64}
 use mir.Val.{toZ, ofZ, SFits}
 use mir.Facts.{toZ-ofZ, ofZ-toZ, sfits-toZ}
-use Rattle.operation.specs.Body.{registerCount}
+use Rattle.operation.specs.Body.{register-count, body-length}
 use Rattle.execution.specs.Entries.{Entry}
 use Rattle.execution.specs.Run.{Run, start}
 use Rattle.model.specs.declared.Limits.{Limits}
@@ -20,10 +20,13 @@ use Rattle.model.specs.Calls.{clients}
 use Rattle.model.specs.Serial.{Version}
 use Rattle.model.specs.Replica.{Replica}
 use Rattle.model.specs.ListLaws.{All, all-join, all-take, all-drop}
+use Rattle.versions.specs.Block.{held-in, block, Small}
+use Rattle.versions.specs.Round.{count-few, small-held, length-held, held-block, length-block, below-block, framed-block, block-held}
 use Rattle.layout.specs.Codec.{Codec, counted}
-use Rattle.layout.specs.Layout.{signed, reader, reader-of, of-reader, key-of, of-key, key, version-of, of-version, version, entry-of, of-entry, entry, parted, joined, within, two, run-of, of-run, run, Row, row, Record, object, record-cells, record-area, body-length, body, body-area, row-of, body-of, record-of, bodies-of}
+use Rattle.layout.specs.Layout.{signed, reader, reader-of, of-reader, key-of, of-key, key, entry-of, of-entry, entry, parted, joined, within, two, run-of, of-run, run}
+use Rattle.layout.specs.Layout.{Row, row, Front, Tail, RecordArea, object, front, tail, record-cells, record-area, body, body-area, row-of, body-of, tail-of, record-of, bodies-of}
 use Rattle.layout.specs.Offsets.{Sane}
-use Rattle.layout.specs.Lawful.{Lawful, lawful-cell, lawful-pair, lawful-via, lawful-iso, lawful-rows, lawful-counted, lawful-padded, lawful-bytes, Padded, Byte, Word}
+use Rattle.layout.specs.Lawful.{Lawful, lawful-cell, lawful-pair, lawful-via, lawful-iso, lawful-rows, lawful-counted, lawful-padded, lawful-bytes, Padded, Byte, Word, below-all, all-below}
 
 -- ---- one cell
 
@@ -75,9 +78,14 @@ lawful-key =
 abbrev pub VersionFits : Version → Type 0
 VersionFits v = Word (v .stamp) × ValueFits (v .value)
 
-pub lawful-version : Lawful Word version VersionFits
-lawful-version =
-    lawful-iso (lawful-pair lawful-cell lawful-signed) version-of of-version (λ v. refl) (λ x. refl)
+-- the same, in the words of `versions`
+pub fits-small : (vs : List Version) → All VersionFits vs → Small vs
+fits-small [] g = tt
+fits-small (v ∷ vs) g = (g .0 .1, g .0 .0, fits-small vs (g .1))
+
+small-fits : (vs : List Version) → Small vs → All VersionFits vs
+small-fits [] g = tt
+small-fits (v ∷ vs) g = ((g .1, g .0), small-fits vs (g .2))
 
 abbrev pub EntryFits : Entry → Type 0
 EntryFits e = Word (e .object) × ValueFits (e .value)
@@ -108,7 +116,7 @@ module _ {A : Type 0} {c : Codec A} {P : A → Type 0} (u : Lawful Word c P) (p 
 -- ---- runs and rows
 
 abbrev pub RegistersFit : List ℤ → Type 0
-RegistersFit g = (length g ≡ registerCount) × All ValueFits g
+RegistersFit g = (length g ≡ register-count) × All ValueFits g
 
 abbrev pub RunFits : ℕ → Run → Type 0
 RunFits m p =
@@ -121,7 +129,7 @@ module _ (m : ℕ) (room : m < 2 ^ 64) where
   pub lawful-run : Lawful Word (run m) (RunFits m)
   lawful-run =
       lawful-iso
-      (lawful-pair lawful-cell (lawful-pair lawful-cell (lawful-pair (lawful-rows lawful-signed (omega arith) registerCount registerCount (omega arith)) (lawful-two lawful-entry m room))))
+      (lawful-pair lawful-cell (lawful-pair lawful-cell (lawful-pair (lawful-rows lawful-signed (omega arith) register-count register-count (omega arith)) (lawful-two lawful-entry m room))))
       run-of of-run (λ p. refl) (λ x. refl)
 
   pub lawful-row : Lawful Word (row m) (RowFits m)
@@ -135,7 +143,7 @@ values-zero (suc n) = (record { sfits = omega arith }, values-zero n)
 pub start-fits : (m : ℕ) (k : ℕ × ℕ) → KeyFits k → RowFits m (k, start)
 unfolding start
 start-fits m k g =
-    (g, (omega arith, (omega arith, ((length-replicate registerCount (pos 0), values-zero registerCount), (omega arith, tt, tt)))))
+    (g, (omega arith, (omega arith, ((length-replicate register-count (pos 0), values-zero register-count), (omega arith, tt, tt)))))
 
 -- ---- the record area
 
@@ -154,9 +162,15 @@ ObjectsFit l xs = (length xs ≤ l .objects) × All (ObjectFits (l .readers)) xs
 abbrev pub RowsFit : Limits → List Row → Type 0
 RowsFit l xs = (length xs ≤ l .pending) × All (RowFits (l .operations)) xs
 
-abbrev pub RecordFits : Limits → Record → Type 0
-RecordFits l r =
-    Word (r .0) × (LastsFit (r .1 .0) × (ReadersFit (l .readers) (r .1 .1 .0) × (ObjectsFit l (r .1 .1 .1 .0) × RowsFit l (r .1 .1 .1 .1))))
+abbrev pub FrontFits : Limits → Front → Type 0
+FrontFits l f =
+    Word (f .0) × (LastsFit (f .1 .0) × (ReadersFit (l .readers) (f .1 .1 .0) × (ObjectsFit l (f .1 .1 .1 .0) × RowsFit l (f .1 .1 .1 .1))))
+
+abbrev pub TailFits : Limits → Tail → Type 0
+TailFits l t = (length t ≡ 0) × All Word t
+
+abbrev pub RecordFits : Limits → RecordArea → Type 0
+RecordFits l r = FrontFits l (r .0) × TailFits l (r .1)
 
 -- a slice's type says that a body's bytes are bytes: the layout asks nothing of them
 abbrev pub Any : ℕ → Type 0
@@ -176,17 +190,31 @@ module _ (l : Limits) (s : Sane l) where
 
   pub lawful-object : Lawful Word (object l) (ObjectFits (l .readers))
   lawful-object =
-      lawful-counted lawful-version (omega arith) (suc (l .readers)) (λ n h. omega (arith, s .readers))
+      let n = l .readers in
+      record {
+        len = λ vs h. length-block n vs (h .0);
+        small = λ vs h. below-all (2 ^ 64) (block n vs) (below-block n vs (fits-small vs (h .1)) (omega (arith, h .0, s .readers)));
+        back = λ vs h. held-block n vs (fits-small vs (h .1));
+        okay = λ vs h. framed-block n vs (h .0);
+        forth = λ b h k e. block-held n b h (all-below (2 ^ 64) b (omega arith) k) e;
+        good = λ b h k e. (omega (arith, length-held b, count-few n b e), small-fits (held-in b) (small-held b (all-below (2 ^ 64) b (omega arith) k)));
+      }
 
   pub lawful-objects : Lawful Word (counted (l .objects) (object l)) (ObjectsFit l)
   lawful-objects = lawful-counted lawful-object (omega arith) (l .objects) (λ n h. omega (arith, s .objects))
 
-  pub lawful-record-cells : Lawful Word (record-cells l) (RecordFits l)
-  lawful-record-cells =
+  lawful-front : Lawful Word (front l) (FrontFits l)
+  lawful-front =
       lawful-pair lawful-cell
       (lawful-pair (lawful-rows lawful-cell (omega arith) clients clients (omega arith))
       (lawful-pair (lawful-rows lawful-reader (omega arith) (l .readers) (l .readers) (omega arith))
       (lawful-pair lawful-objects lawful-rows-of)))
+
+  pub lawful-tail : Lawful Word (tail l) (TailFits l)
+  lawful-tail = lawful-rows lawful-cell (omega arith) 0 0 (omega arith)
+
+  pub lawful-record-cells : Lawful Word (record-cells l) (RecordFits l)
+  lawful-record-cells = lawful-pair lawful-front lawful-tail
 
   pub lawful-record : Lawful Byte (record-area l) (RecordFits l)
   lawful-record = lawful-bytes lawful-record-cells
@@ -207,14 +235,16 @@ pub record Printable (l : Limits) (u : Replica) : Type 0 where
   pub readers : ReadersFit (l .readers) (u .readers)
   pub objects : ObjectsFit l (u .objects)
   pub rows : RowsFit l (map row-of (u .pending))
+  pub tail : TailFits l (tail-of u)
   pub bodies : All (BodyFits (l .operations)) (map body-of (u .pending))
 
 pub few-pending : (l : Limits) (u : Replica) → Printable l u → length (u .pending) ≤ l .pending
 few-pending l u g = omega (arith, g .rows .0, length-map (u .pending) row-of)
 
 pub record-fits : (l : Limits) (u : Replica) → Printable l u → RecordFits l (record-of u)
-record-fits l u g = (g .timestamp, (g .lasts, (g .readers, (g .objects, g .rows))))
+record-fits l u g = ((g .timestamp, (g .lasts, (g .readers, (g .objects, g .rows)))), g .tail)
 
 pub fits-record : (l : Limits) (u : Replica) → RecordFits l (record-of u) → All (BodyFits (l .operations)) (bodies-of u) → Printable l u
 fits-record l u r b =
-    record { timestamp = r .0; lasts = r .1 .0; readers = r .1 .1 .0; objects = r .1 .1 .1 .0; rows = r .1 .1 .1 .1; bodies = b }
+    let f = r .0 in
+    record { timestamp = f .0; lasts = f .1 .0; readers = f .1 .1 .0; objects = f .1 .1 .1 .0; rows = f .1 .1 .1 .1; tail = r .1; bodies = b }

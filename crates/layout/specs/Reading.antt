@@ -5,49 +5,50 @@ use mathlib.Core.List.{List, [], map}
 use Prim.Native.Nat.{ℕ, _+_, _-_, _*_, _≤_, _<_, _^_}
 use native.Mathlib.Omega.{arith}
 use native.Mathlib.Nat.{mul-assoc}
-use lib.ListN.{length, drop, getD, length-map, length-drop, List·getD-map}
+use lib.ListN.{length, drop, getD, length-map, List·getD-map}
 use borrow.Rule.Slice.PartMut.{midOf}
 use Rattle.cells.specs.Cells.{cells, uncells}
 use Rattle.cells.specs.Uncells.{uncells-part}
 use Rattle.model.specs.declared.Limits.{Limits}
-use Rattle.model.specs.Calls.{clients, lastTimestamp}
+use Rattle.model.specs.Calls.{clients, last-timestamp}
 use Rattle.model.specs.Replica.{Pending, Replica}
-use Rattle.model.specs.ListLaws.{All, map-drop}
+use Rattle.model.specs.ListLaws.{All}
 use Rattle.model.specs.Shape.{Shape}
 use Rattle.layout.specs.Rows.{flat, table}
 use Rattle.layout.specs.RowLaws.{table-full}
-use Rattle.layout.specs.Codec.{Codec, counted, inBytes}
-use Rattle.layout.specs.Layout.{of-reader, Row, row, Record, object, record-cells, row-of, record-of}
+use Rattle.layout.specs.Codec.{Codec, counted, bytewise}
+use Rattle.layout.specs.Layout.{of-reader, Row, row, RecordArea, object, record-cells, row-of, record-of}
 use Rattle.layout.specs.Offsets.{Sane, last-at, reader-at, size-at, object-width, object-at, pending-at, row-width, row-at}
 use Rattle.layout.specs.Printable.{ObjectsFit, RowsFit, RecordFits, record-fits, few-pending}
 use Rattle.layout.specs.Lawful.{Sized}
 use Rattle.layout.specs.Field.{Field, cell-read, in-bytes}
-use Rattle.layout.specs.Tables.{bytes-table, field-places}
+use Rattle.layout.specs.TableChanges.{bytes-table, field-places}
 use Rattle.layout.specs.RowCells.{array-cells}
-use Rattle.layout.specs.Fields.{With, ObjectThere, RowThere, sized-object, sized-row, sized-objects, sized-rows, timestamp-field, readers-field, objects-field, rows-field, last-field, reader-field, object-field, row-field, sizes, table-offsets, last-offset, reader-offset, object-offset, row-offset}
+use Rattle.layout.specs.Fields.{With, ObjectThere, RowThere, object-there, row-there, sized-object, sized-objects, sized-rows, timestamp-field, readers-field, objects-field, rows-field, last-field, reader-field, object-field}
+use Rattle.layout.specs.Fields.{row-field, sizes, table-offsets, last-offset, reader-offset, object-offset, row-offset}
 use Rattle.layout.specs.Holds.{Holds, holds-cells, holds-long}
 use Rattle.layout.specs.OffsetLaws.{object-cell}
 
 module _ (l : Limits) (s : Sane l) (b : List ℕ) (u : Replica) (h : Holds l b u) where
   -- ---- any field: its cells, and the part of the area that it is
 
-  module _ {B : Type 0} {P : Record → Type 0} {f : Codec B} {Q : B → Type 0} (F : Field (record-cells l) P f Q) (p : P (record-of u)) where
-    pub get-field : (k : ℕ) → k < f .size → (i : ℕ) → F .at + k ≡ i → getD (cells b) i 0 ≡ getD (f .enc (F .get (record-of u))) k 0
+  module _ {B : Type 0} {P : RecordArea → Type 0} {f : Codec B} {Q : B → Type 0} (F : Field (record-cells l) P f Q) (p : P (record-of u)) where
+    get-field : (k : ℕ) → k < f .size → (i : ℕ) → F .at + k ≡ i → getD (cells b) i 0 ≡ getD (f .enc (F .get (record-of u))) k 0
     get-field k low i e =
         ap (λ (w : List ℕ). getD w i 0) (holds-cells l s b u h)
         ∙ ap (λ (j : ℕ). getD (record-cells l .enc (record-of u)) j 0) (sym e)
         ∙ cell-read F (record-of u) p k low
 
-    pub field-part : (i n : ℕ) → F .at ≡ i → f .size ≡ n → midOf (i * 8) (n * 8) b ≡ uncells (f .enc (F .get (record-of u)))
+    field-part : (i n : ℕ) → F .at ≡ i → f .size ≡ n → midOf (i * 8) (n * 8) b ≡ uncells (f .enc (F .get (record-of u)))
     field-part i n e q =
         ap (midOf (i * 8) (n * 8)) (h .same)
         ∙ ap₂ (λ (j k : ℕ). midOf (j * 8) (k * 8) (uncells (record-cells l .enc (record-of u)))) (sym e) (sym q)
         ∙ in-bytes F .read (record-of u) p
 
   -- the rows of a table from i on, with the places up to q
-  module _ {B : Type 0} {P : Record → Type 0} {c : Codec B} {R : B → Type 0} {n : ℕ} (z : Sized c R) (F : Field (record-cells l) P (counted n c) (λ xs. (length xs ≤ n) × All R xs)) (p : P (record-of u)) where
+  module _ {B : Type 0} {P : RecordArea → Type 0} {c : Codec B} {R : B → Type 0} {n : ℕ} (z : Sized c R) (F : Field (record-cells l) P (counted n c) (λ xs. (length xs ≤ n) × All R xs)) (p : P (record-of u)) where
     pub table-part : (i q : ℕ) → i ≤ length (F .get (record-of u)) → length (F .get (record-of u)) ≤ q → q ≤ n → (a k : ℕ) → F .at + (1 + i * c .size) ≡ a → c .size ≡ k
-        → midOf (a * 8) ((q - i) * (k * 8)) b ≡ table (q - i) (k * 8) (map (inBytes c .enc) (drop i (F .get (record-of u))))
+        → midOf (a * 8) ((q - i) * (k * 8)) b ≡ table (q - i) (k * 8) (map (bytewise c .enc) (drop i (F .get (record-of u))))
     table-part i q low few most a k e w =
         let xs = F .get (record-of u) in
         let m : (q - i) * (k * 8) ≡ (q - i) * c .size * 8 = ap (λ (j : ℕ). (q - i) * (j * 8)) (sym w) ∙ sym (mul-assoc (q - i) (c .size) 8) in
@@ -56,7 +57,7 @@ module _ (l : Limits) (s : Sane l) (b : List ℕ) (u : Replica) (h : Holds l b u
         ∙ uncells-part (F .at + (1 + i * c .size)) ((q - i) * c .size) (record-cells l .enc (record-of u))
         ∙ ap uncells (field-places z F (record-of u) p i q low few most)
         ∙ bytes-table c (q - i) (drop i xs)
-        ∙ ap (λ (j : ℕ). table (q - i) (j * 8) (map (inBytes c .enc) (drop i xs))) w
+        ∙ ap (λ (j : ℕ). table (q - i) (j * 8) (map (bytewise c .enc) (drop i xs))) w
 
   known : RecordFits l (record-of u)
   known = record-fits l u (h .fits)
@@ -98,8 +99,7 @@ module _ (l : Limits) (s : Sane l) (b : List ℕ) (u : Replica) (h : Holds l b u
     object-low = omega (arith, h .fits .objects .0)
 
     object-known : With l (ObjectThere l i) (RowsFit l) (record-of u)
-    object-known =
-        (h .fits .timestamp, (h .fits .lasts, (h .fits .readers, ((h .fits .objects .0, h .fits .objects .1, k), h .fits .rows))))
+    object-known = object-there l u (h .fits) i k
 
     pub object-part : midOf (object-at l i * 8) (object-width l * 8) b ≡ uncells (object l .enc (getD (u .objects) i []))
     object-part =
@@ -110,27 +110,13 @@ module _ (l : Limits) (s : Sane l) (b : List ℕ) (u : Replica) (h : Holds l b u
         get-field (object-field l s i object-low) object-known j (omega (arith, sizes l .0)) (object-at l i + j) (omega (arith, object-offset l s i object-low))
 
   -- the blocks of all objects
-  pub objects-part : midOf (object-at l 0 * 8) (length (u .objects) * (object-width l * 8)) b ≡ flat (map (inBytes (object l) .enc) (u .objects))
+  pub objects-part : midOf (object-at l 0 * 8) (length (u .objects) * (object-width l * 8)) b ≡ flat (map (bytewise (object l) .enc) (u .objects))
   objects-part =
       let n = length (u .objects) in
       let z : n - 0 ≡ n = omega arith in
       ap (λ (j : ℕ). midOf (object-at l 0 * 8) (j * (object-width l * 8)) b) (sym z)
       ∙ table-part (sized-object l s) (objects-field l (sized-objects l s) (sized-rows l s)) known 0 n (omega arith) (omega arith) (h .fits .objects .0) (object-at l 0) (object-width l) (omega (arith, table-offsets l s .0)) (sizes l .0)
-      ∙ table-full (object-width l * 8) (map (inBytes (object l) .enc) (u .objects)) (n - 0) (length-map (u .objects) (inBytes (object l) .enc) ∙ sym z)
-
-  -- the rows from i on
-  pub rows-part : (i : ℕ) → i ≤ length (u .pending) → midOf (row-at l i * 8) ((length (u .pending) - i) * (row-width l * 8)) b ≡ flat (map (inBytes (row (l .operations)) .enc) (map row-of (drop i (u .pending))))
-  rows-part i low =
-      let n = length (u .pending) in
-      let m = length-map (u .pending) row-of in
-      let c = row (l .operations) in
-      let rs = drop i (map row-of (u .pending)) in
-      table-part (sized-row l s) (rows-field l (sized-objects l s) (sized-rows l s)) known i n (omega arith) (omega arith) (omega (arith, h .fits .rows .0)) (row-at l i) (row-width l) (row-start i) (sizes l .1)
-      ∙ table-full (row-width l * 8) (map (inBytes c .enc) rs) (n - i) (length-map rs (inBytes c .enc) ∙ length-drop i (map row-of (u .pending)) ∙ ap (λ (j : ℕ). j - i) m)
-      ∙ ap (λ (x : List Row). flat (map (inBytes c .enc) x)) (sym (map-drop row-of i (u .pending)))
-    where
-      row-start : (i : ℕ) → rows-field l (sized-objects l s) (sized-rows l s) .at + (1 + i * row (l .operations) .size) ≡ row-at l i
-      row-start i = omega (arith, table-offsets l s .1, ap (λ (w : ℕ). i * w) (sizes l .1))
+      ∙ table-full (object-width l * 8) (map (bytewise (object l) .enc) (u .objects)) (n - 0) (length-map (u .objects) (bytewise (object l) .enc) ∙ sym z)
 
   -- ---- row i: its cells as a part, and one of them
 
@@ -139,8 +125,7 @@ module _ (l : Limits) (s : Sane l) (b : List ℕ) (u : Replica) (h : Holds l b u
     row-low = omega (arith, few-pending l u (h .fits))
 
     row-known : With l (ObjectsFit l) (RowThere l i) (record-of u)
-    row-known =
-        (h .fits .timestamp, (h .fits .lasts, (h .fits .readers, (h .fits .objects, (h .fits .rows .0, h .fits .rows .1, omega (arith, length-map (u .pending) row-of))))))
+    row-known = row-there l u (h .fits) i k
 
     the-row : getD (map row-of (u .pending)) i (row-of d) ≡ row-of (getD (u .pending) i d)
     the-row = List·getD-map row-of (u .pending) i d
@@ -159,7 +144,7 @@ module _ (l : Limits) (s : Sane l) (b : List ℕ) (u : Replica) (h : Holds l b u
 
   -- timestamp, last numbers, readers and the number of objects
   pub cell-inside : (i : ℕ) → i ≤ size-at l → i * 8 + 8 ≤ length b
-  cell-inside i k = omega (arith, holds-long l s b u h, object-cell l s 0 (omega arith) (object-width l) refl .inside)
+  cell-inside i k = omega (arith, holds-long l s b u h, object-cell l s 0 (omega arith) (size-at l) (object-width l) refl refl .inside)
 
   -- what was read at cell a
   module _ (a n : ℕ) (e : n ≡ getD (cells b) a 0) where
@@ -176,9 +161,9 @@ module _ (l : Limits) (s : Sane l) (b : List ℕ) (u : Replica) (h : Holds l b u
     count-read ea = e ∙ ap (λ (i : ℕ). getD (cells b) i 0) ea ∙ get-pending
 
   pub timestamp-low : Shape l u → getD (cells b) 0 0 < 2 ^ 32
-  unfolding lastTimestamp
+  unfolding last-timestamp
   timestamp-low g = omega (arith, get-timestamp, g .encoded .timestamp)
 
   -- object i begins in the area, or where the area ends
   pub object-inside : (i a : ℕ) → i ≤ l .objects → a ≡ object-at l i → a * 8 ≤ length b
-  object-inside i a k e = omega (arith, holds-long l s b u h, object-cell l s i k (object-width l) refl .inside)
+  object-inside i a k e = omega (arith, holds-long l s b u h, object-cell l s i k (size-at l) (object-width l) refl refl .inside)

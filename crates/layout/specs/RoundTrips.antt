@@ -7,11 +7,11 @@ use native.Mathlib.Omega.{arith}
 use lib.ListN.{length, drop, length-map}
 use borrow.Author.Tests.{eqb-true, eq-eqb}
 use Rattle.cells.specs.Cells.{Below}
-use Rattle.execution.specs.Agreement.{both}
+use Rattle.execution.specs.ReadAgreement.{both}
 use Rattle.model.specs.declared.Limits.{Limits}
 use Rattle.model.specs.Replica.{Pending, Replica}
 use Rattle.model.specs.ListLaws.{All}
-use Rattle.layout.specs.Layout.{Row, Record, record-area, body-area, row-of, body-of, all-from, record-of, bodies-of, replica-from, Areas, row-count, parse, print, lengths, laid}
+use Rattle.layout.specs.Layout.{Row, Tail, RecordArea, record-area, body-area, row-of, body-of, all-from, record-of, bodies-of, replica-from, Areas, row-count, parse, print, lengths, laid}
 use Rattle.layout.specs.Offsets.{Sane}
 use Rattle.layout.specs.Lawful.{Byte, below-all}
 use Rattle.layout.specs.Printable.{RecordFits, BodyFits, any-all, lawful-record, lawful-bodies, Printable, record-fits, fits-record, few-pending}
@@ -31,6 +31,11 @@ bodies-back [] [] h = refl
 bodies-back [] (b ∷ bs) h = absurd (omega arith)
 bodies-back (r ∷ rs) [] h = absurd (omega arith)
 bodies-back (r ∷ rs) (b ∷ bs) h = ap (b ∷_) (bodies-back rs bs (omega arith))
+
+-- the tail of every record area, which has no cell
+no-tail : (t : Tail) → length t ≡ 0 → [] ≡ t
+no-tail [] h = refl
+no-tail (x ∷ t) h = absurd (omega arith)
 
 module _ (l : Limits) (s : Sane l) where
   -- ---- a replica that the areas can hold
@@ -52,7 +57,7 @@ module _ (l : Limits) (s : Sane l) where
     unfolding parse print
     print-back =
         let b = body-area l (length (u .pending)) .enc (bodies-of u) in
-        ap (λ (r : Record). replica-from r (body-area l (row-count r) .dec b)) record-back
+        ap (λ (r : RecordArea). replica-from r (body-area l (row-count r) .dec b)) record-back
         ∙ ap (λ (k : ℕ). replica-from (record-of u) (body-area l k .dec b)) count
         ∙ ap (replica-from (record-of u)) (lawful-bodies l s (length (u .pending)) few .back (bodies-of u) in-use)
         ∙ (λ i. record { timestamp = u .timestamp; objects = u .objects; lasts = u .lasts; pending = pending-back (u .pending) i; readers = u .readers })
@@ -77,7 +82,7 @@ module _ (l : Limits) (s : Sane l) where
     unfolding lengths
     area-lengths = let t = both _ _ n in (eqb-true _ _ (t .0), eqb-true _ _ (t .1))
 
-    abbrev R : Record
+    abbrev R : RecordArea
     R = record-area l .dec (a .0)
 
     okays : (record-area l .ok (a .0) ≡ true) × (body-area l (row-count R) .ok (a .1) ≡ true)
@@ -91,7 +96,7 @@ module _ (l : Limits) (s : Sane l) where
     good-record = lawful-record l s .good (a .0) (area-lengths .0) bytes (okays .0)
 
     places : row-count R ≤ l .pending
-    places = good-record .1 .1 .1 .1 .0
+    places = good-record .0 .1 .1 .1 .1 .0
 
     good-bodies : (length (body-area l (row-count R) .dec (a .1)) ≡ row-count R) × All (BodyFits (l .operations)) (body-area l (row-count R) .dec (a .1))
     good-bodies =
@@ -100,11 +105,14 @@ module _ (l : Limits) (s : Sane l) where
     record-same : record-of (parse l a) ≡ R
     unfolding parse
     record-same =
-        λ i. (R .0, (R .1 .0, (R .1 .1 .0, (R .1 .1 .1 .0, rows-back (R .1 .1 .1 .1) (body-area l (row-count R) .dec (a .1)) i))))
+        let f = R .0 in
+        let rs = rows-back (f .1 .1 .1 .1) (body-area l (row-count R) .dec (a .1)) in
+        let t = no-tail (R .1) (good-record .1 .0) in
+        λ i. ((f .0, (f .1 .0, (f .1 .1 .0, (f .1 .1 .1 .0, rs i)))), t i)
 
     bodies-same : bodies-of (parse l a) ≡ body-area l (row-count R) .dec (a .1)
     unfolding parse
-    bodies-same = bodies-back (R .1 .1 .1 .1) (body-area l (row-count R) .dec (a .1)) (good-bodies .0)
+    bodies-same = bodies-back (R .0 .1 .1 .1 .1) (body-area l (row-count R) .dec (a .1)) (good-bodies .0)
 
     pub print-parse : print l (parse l a) ≡ a
     unfolding print

@@ -1,26 +1,28 @@
 -- A row and an object's block, cell by cell. Assumes nothing.
 use mathlib.Core.Path.{_≡_, refl, sym, ap, _∙_}
 use mathlib.Core.List.{List, [], _∷_, _++_, map, append-assoc}
-use Prim.Native.Nat.{ℕ, suc, _+_, _-_, _*_, _<_}
+use Prim.Native.Nat.{ℕ, zero, suc, _+_, _-_, _*_, _<_}
 use native.Mathlib.Omega.{arith}
+use native.Mathlib.Nat.{not-suc-le-zero, le-of-suc-le-suc}
 use lib.IntN.{pos}
 use lib.ListN.{length, getD, length-map, length-append, List·getD-map, List·getD-append}
 use lib.Seq.{getD-append-add}
 use mir.Syntax.{w64}
 use mir.Val.{ofZ}
-use Rattle.operation.specs.Body.{registerCount}
+use Rattle.operation.specs.Body.{register-count}
 use Rattle.execution.specs.Entries.{Entry}
 use Rattle.execution.specs.Run.{Run, start, register}
 use Rattle.model.specs.declared.Limits.{Limits}
 use Rattle.model.specs.Serial.{Version}
 use Rattle.model.specs.ListLaws.{All, all-join, getD-map-in}
+use Rattle.versions.specs.Block as versions
 use Rattle.layout.specs.Rows.{flat, table, blank}
 use Rattle.layout.specs.RowLaws.{blanks, table-full, row-read}
 use Rattle.layout.specs.Codec.{Codec}
 use Rattle.layout.specs.Layout.{of-key, entry, Row, row, object}
-use Rattle.layout.specs.Offsets.{stamp-at, value-at, register-at, reads-at, entries-at, entry-at}
+use Rattle.layout.specs.Offsets.{row-cells, value-at, register-at, reads-at, entries-at, entry-at}
 use Rattle.layout.specs.Lawful.{sized, uniform, Lawful}
-use Rattle.layout.specs.Printable.{EntryFits, ObjectFits, RowFits, lawful-version, lawful-entry}
+use Rattle.layout.specs.Printable.{EntryFits, RowFits, lawful-entry}
 use Rattle.layout.specs.Field.{mid-at}
 
 -- ---- rows of one cell
@@ -44,16 +46,18 @@ module _ {A : Type 0} {c : Codec A} {P : A → Type 0} {K : ℕ → Type 0} (u :
 
 -- ---- an object's block
 
-module _ (l : Limits) (vs : List Version) (g : ObjectFits (l .readers) vs) (j : ℕ) (h : j < length vs) (d : Version) where
-  pub block-stamp : getD (object l .enc vs) (stamp-at j) 0 ≡ getD vs j d .stamp
-  block-stamp =
-      let e : 1 + j * 2 ≡ 1 + j * 2 + 0 = omega arith in
-      ap (λ (i : ℕ). getD (object l .enc vs) i 0) e ∙ table-cell lawful-version (suc (l .readers)) (length vs ∷ []) vs (g .1) j h d 0 (omega arith)
+flat-value : (vs : List Version) (ts : List ℕ) (j : ℕ) → j < length vs → (d : Version) → getD (versions.flat vs ++ ts) (1 + j * 2) 0 ≡ ofZ w64 (getD vs j d .value)
+unfolding versions.flat
+flat-value [] ts j h d = absurd (not-suc-le-zero h)
+flat-value (v ∷ vs) ts zero h d = refl
+flat-value (v ∷ vs) ts (suc j) h d =
+    let e : 1 + suc j * 2 ≡ suc (suc (1 + j * 2)) = omega arith in rw e (flat-value vs ts j (le-of-suc-le-suc h) d)
 
-  pub block-value : getD (object l .enc vs) (value-at j) 0 ≡ ofZ w64 (getD vs j d .value)
-  block-value =
-      let e : 2 + j * 2 ≡ 1 + j * 2 + 1 = omega arith in
-      ap (λ (i : ℕ). getD (object l .enc vs) i 0) e ∙ table-cell lawful-version (suc (l .readers)) (length vs ∷ []) vs (g .1) j h d 1 (omega arith)
+pub block-value : (l : Limits) (vs : List Version) (j : ℕ) → j < length vs → (d : Version) → getD (object l .enc vs) (value-at j) 0 ≡ ofZ w64 (getD vs j d .value)
+unfolding versions.block
+block-value l vs j h d =
+    let e : value-at j ≡ suc (1 + j * 2) = omega arith in
+    rw e (flat-value vs (blank (2 * (suc (l .readers) - length vs))) j h d)
 
 -- ---- a row
 
@@ -64,11 +68,10 @@ module _ (m : ℕ) (r : Row) (g : RowFits m r) where
   abbrev es : List Entry
   es = r .1 .reads ++ r .1 .writes
 
-  -- outright
-  pub row-cells : row m .enc r ≡ of-key (r .0) ∷ p .counter ∷ p .outcome ∷ (map (ofZ w64) (p .registers) ++ (length (p .reads) ∷ length es ∷ table m 2 (map (entry .enc) es)))
-  row-cells =
+  outright : row m .enc r ≡ of-key (r .0) ∷ p .counter ∷ p .outcome ∷ (map (ofZ w64) (p .registers) ++ (length (p .reads) ∷ length es ∷ table m 2 (map (entry .enc) es)))
+  outright =
       ap (λ (x : List ℕ). of-key (r .0) ∷ p .counter ∷ p .outcome ∷ (x ++ (length (p .reads) ∷ length es ∷ table m 2 (map (entry .enc) es))))
-      (array-cells (ofZ w64) registerCount (p .registers) (g .1 .1 .1 .0 .0))
+      (array-cells (ofZ w64) register-count (p .registers) (g .1 .1 .1 .0 .0))
 
   -- the cells before the entries
   front : List ℕ
@@ -76,41 +79,41 @@ module _ (m : ℕ) (r : Row) (g : RowFits m r) where
       of-key (r .0) ∷ p .counter ∷ p .outcome ∷ (map (ofZ w64) (p .registers) ++ (length (p .reads) ∷ length es ∷ []))
 
   four : length (map (ofZ w64) (p .registers)) ≡ 4
-  unfolding registerCount
+  unfolding register-count
   four = length-map (p .registers) (ofZ w64) ∙ g .1 .1 .1 .0 .0
 
   split : row m .enc r ≡ front ++ table m 2 (map (entry .enc) es)
   unfolding front
   split =
-      row-cells
+      outright
       ∙ ap (λ (x : List ℕ). of-key (r .0) ∷ p .counter ∷ p .outcome ∷ x)
       (sym (append-assoc (map (ofZ w64) (p .registers)) (length (p .reads) ∷ length es ∷ []) (table m 2 (map (entry .enc) es))))
 
-  front-length : length front ≡ 9
+  front-length : length front ≡ entry-at 0
   unfolding front
   front-length =
       omega (arith, four, length-append (map (ofZ w64) (p .registers)) (length (p .reads) ∷ length es ∷ []))
 
-  pub row-register : (k : ℕ) → k < registerCount → getD (row m .enc r) (register-at k) 0 ≡ ofZ w64 (register (p .registers) k)
+  pub row-register : (k : ℕ) → k < register-count → getD (row m .enc r) (register-at k) 0 ≡ ofZ w64 (register (p .registers) k)
   row-register k low =
       let z : ℕ = 0 in
       let rest = length (p .reads) ∷ length es ∷ table m 2 (map (entry .enc) es) in
-      let n : length (map (ofZ w64) (p .registers)) ≡ registerCount = length-map (p .registers) (ofZ w64) ∙ g .1 .1 .1 .0 .0 in
-      ap (λ (x : List ℕ). getD x (3 + k) 0) row-cells
+      let n : length (map (ofZ w64) (p .registers)) ≡ register-count = length-map (p .registers) (ofZ w64) ∙ g .1 .1 .1 .0 .0 in
+      ap (λ (x : List ℕ). getD x (register-at k) 0) outright
       ∙ passed (of-key (r .0)) (p .counter) (p .outcome) (map (ofZ w64) (p .registers) ++ rest) k
       ∙ List·getD-append (map (ofZ w64) (p .registers)) rest z k (omega arith)
       ∙ List·getD-map (ofZ w64) (p .registers) k (pos 0)
     where
-      passed : (a b c : ℕ) (x : List ℕ) (k : ℕ) → getD (a ∷ b ∷ c ∷ x) (3 + k) 0 ≡ getD x k 0
-      passed a b c x k = let e : 3 + k ≡ suc (suc (suc k)) = omega arith in ap (λ (i : ℕ). getD (a ∷ b ∷ c ∷ x) i 0) e
+      passed : (a b c : ℕ) (x : List ℕ) (k : ℕ) → getD (a ∷ b ∷ c ∷ x) (register-at k) 0 ≡ getD x k 0
+      passed a b c x k = let e : register-at k ≡ suc (suc (suc k)) = omega arith in ap (λ (i : ℕ). getD (a ∷ b ∷ c ∷ x) i 0) e
 
   -- behind the registers
-  behind : (k : ℕ) → getD (row m .enc r) (7 + k) 0 ≡ getD (length (p .reads) ∷ length es ∷ table m 2 (map (entry .enc) es)) k 0
+  behind : (k : ℕ) → getD (row m .enc r) (reads-at + k) 0 ≡ getD (length (p .reads) ∷ length es ∷ table m 2 (map (entry .enc) es)) k 0
   behind k =
       let x = of-key (r .0) ∷ p .counter ∷ p .outcome ∷ map (ofZ w64) (p .registers) in
       let rest = length (p .reads) ∷ length es ∷ table m 2 (map (entry .enc) es) in
-      let n : 7 + k ≡ length x + k = omega (arith, four) in
-      ap (λ (x : List ℕ). getD x (7 + k) 0) row-cells ∙ ap (λ (i : ℕ). getD (x ++ rest) i 0) n ∙ getD-append-add x rest k 0
+      let n : reads-at + k ≡ length x + k = omega (arith, four) in
+      ap (λ (x : List ℕ). getD x (reads-at + k) 0) outright ∙ ap (λ (i : ℕ). getD (x ++ rest) i 0) n ∙ getD-append-add x rest k 0
 
   -- how many reads, and how many entries
   pub row-reads : getD (row m .enc r) reads-at 0 ≡ length (p .reads)
@@ -121,23 +124,23 @@ module _ (m : ℕ) (r : Row) (g : RowFits m r) where
 
   -- entry j: the reads, and then the writes
   module _ (j : ℕ) (h : j < length es) (d : Entry) where
-    entry-cell : (k : ℕ) → k < 2 → getD (row m .enc r) (9 + j * 2 + k) 0 ≡ getD (entry .enc (getD es j d)) k 0
+    entry-cell : (k : ℕ) → k < 2 → getD (row m .enc r) (entry-at j + k) 0 ≡ getD (entry .enc (getD es j d)) k 0
     entry-cell k low =
-        ap (λ (x : List ℕ). getD x (9 + j * 2 + k) 0) split
+        ap (λ (x : List ℕ). getD x (entry-at j + k) 0) split
         ∙ ap (λ (n : ℕ). getD (front ++ table m 2 (map (entry .enc) es)) (n + j * 2 + k) 0) (sym front-length)
         ∙ table-cell lawful-entry m front es (all-join EntryFits (p .reads) (p .writes) (g .1 .1 .1 .1 .1) (g .1 .1 .1 .1 .2)) j h d k low
 
     pub row-object : getD (row m .enc r) (entry-at j) 0 ≡ getD es j d .object
     row-object =
-        let e : 9 + j * 2 ≡ 9 + j * 2 + 0 = omega arith in
+        let e : entry-at j ≡ entry-at j + 0 = omega arith in
         ap (λ (i : ℕ). getD (row m .enc r) i 0) e ∙ entry-cell 0 (omega arith)
 
     pub row-value : getD (row m .enc r) (entry-at j + 1) 0 ≡ ofZ w64 (getD es j d .value)
     row-value = entry-cell 1 (omega arith)
 
 -- a transaction at its start: its key, and zeros
-pub row-start : (m : ℕ) (k : ℕ × ℕ) → row m .enc (k, start) ≡ of-key k ∷ blank (8 + 2 * m)
-unfolding start registerCount table flat
+pub row-start : (m : ℕ) (k : ℕ × ℕ) → row m .enc (k, start) ≡ of-key k ∷ blank (row-cells m - 1)
+unfolding start register-count table flat
 row-start m k =
     let e : (m - 0) * 2 ≡ 2 * m = omega arith in
-    ap (of-key k ∷_) (blanks 8 ((m - 0) * 2) (8 + 2 * m) (omega arith))
+    ap (of-key k ∷_) (blanks 8 ((m - 0) * 2) (row-cells m - 1) (omega arith))

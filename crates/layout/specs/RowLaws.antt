@@ -1,15 +1,14 @@
 -- Laws of rows: tables and their parts. Assumes nothing.
-use mathlib.Core.Path.{_≡_, refl, sym, ap, ap₂, _∙_}
+use mathlib.Core.Path.{_≡_, refl, sym, ap, _∙_}
 use mathlib.Core.Bool.{true}
 use mathlib.Core.List.{List, [], _∷_, _++_, append-assoc, append-nil}
 use Prim.Native.Nat.{ℕ, zero, suc, _+_, _-_, _*_, _≤_, _<_}
 use native.Mathlib.Nat.{not-suc-le-zero, le-of-suc-le-suc, zero-mul, suc-mul, zero-sub, sub-zero, suc-sub-suc, add-mul}
 use native.Mathlib.Omega.{arith}
 use lib.ListN.{length, take, drop, getD, set, length-append, length-drop, length-set, length-replicate, replicate-append-replicate, take-append-drop}
-use lib.Seq.{drop-drop, take-add, take-at, drop-at, length-take-le, split-at, set-split}
+use lib.Seq.{take-add, take-at, drop-at, length-take-le, split-at, set-split}
 use borrow.Rule.Slice.PartMut.{putMid, midOf}
 use Rattle.layout.specs.Rows.{flat, chunks, blank, table}
-use Rattle.cells.specs.Cells.{splice}
 use Rattle.cells.specs.Zeros.{zeros, zeros-replicate, zeros-true}
 
 -- ---- rows taken from a list
@@ -20,26 +19,11 @@ module _ (w : ℕ) where
   length-chunks zero b = refl
   length-chunks (suc n) b = ap suc (length-chunks n (drop w b))
 
-  pub chunks-at : (n : ℕ) (b : List ℕ) (i : ℕ) → i < n → getD (chunks w n b) i [] ≡ take w (drop (i * w) b)
-  unfolding chunks
-  chunks-at zero b i h = absurd (not-suc-le-zero h)
-  chunks-at (suc n) b zero h = rw zero-mul
-  chunks-at (suc n) b (suc i) h =
-      let e : suc i * w ≡ w + i * w = omega arith in
-      rw (e, ← drop-drop) (chunks-at n (drop w b) i (le-of-suc-le-suc h))
-
 -- p rows are n rows and the others
 pub split-rows : (p n w : ℕ) → n ≤ p → p * w ≡ n * w + (p - n) * w
 split-rows p n w h =
     let e : p ≡ n + (p - n) = omega arith in
     ap (λ (k : ℕ). k * w) e ∙ add-mul n (p - n) w
-
--- row i and those behind it; and the last row's place
-pub rest-rows : (i n w : ℕ) → i < n → (w + (n - (i + 1)) * w ≡ (n - i) * w) × ((n - 1) * w ≡ i * w + (n - (i + 1)) * w)
-rest-rows i n w k =
-    let e : n - i ≡ suc (n - (i + 1)) = omega arith in
-    let f : n - 1 - i ≡ n - (i + 1) = omega arith in
-    (omega (arith, ap (λ (x : ℕ). x * w) e), omega (arith, split-rows (n - 1) i w (omega arith), ap (λ (x : ℕ). x * w) f))
 
 -- ---- rows of one width
 
@@ -203,47 +187,3 @@ table-full w rs n e =
   where
     zero-of : (a b : ℕ) → b ≡ a → a - b ≡ 0
     zero-of a b e = omega arith
-
--- with one place unused
-table-free : (w : ℕ) (rs : List (List ℕ)) (n : ℕ) → length rs + 1 ≡ n → table n w rs ≡ flat rs ++ blank w
-unfolding table
-table-free w rs n e =
-    let z : (n - length rs) * w ≡ w = ap (λ (k : ℕ). k * w) (one-of n (length rs) e) ∙ omega arith in
-    ap (λ (k : ℕ). flat rs ++ blank k) z
-  where
-    one-of : (a b : ℕ) → b + 1 ≡ a → a - b ≡ 1
-    one-of a b e = omega arith
-
--- w numbers at a taken out, the m numbers behind them moved down, and zeros in the place that this frees
-close-up : (a w m : ℕ) (b : List ℕ) → a + w + m ≤ length b → splice (splice b a (take m (drop (a + w) b))) (a + m) (blank w) ≡ putMid a (w + m) b (take m (drop (a + w) b) ++ blank w)
-unfolding splice
-close-up a w m b h =
-    let r = take m (drop (a + w) b) in
-    let x = take a b in
-    let lx : length x ≡ a = length-take-le a b (omega arith) in
-    let lr : length r ≡ m = length-take-le m (drop (a + w) b) (omega (arith, length-drop (a + w) b)) in
-    let lz : length (blank w) ≡ w = length-replicate w 0 in
-    let before : length (x ++ r) ≡ a + m = omega (arith, length-append x r) in
-    let moved : x ++ (r ++ drop (a + length r) b) ≡ (x ++ r) ++ drop (a + m) b = rw lr (sym (append-assoc x r (drop (a + m) b))) in
-    let back : drop (a + m + length (blank w)) ((x ++ r) ++ drop (a + m) b) ≡ drop (w + m) (drop a b) =
-    ap (λ (k : ℕ). drop k ((x ++ r) ++ drop (a + m) b)) (ap (λ (k : ℕ). a + m + k) lz)
-    ∙ sym (drop-drop w (a + m) ((x ++ r) ++ drop (a + m) b))
-    ∙ ap (drop w) (drop-at (x ++ r) (drop (a + m) b) (a + m) before)
-    ∙ drop-drop w (a + m) b ∙ ap (λ (k : ℕ). drop k b) (sums a m w) ∙ sym (drop-drop (w + m) a b) in
-    ap (λ (y : List ℕ). take (a + m) y ++ (blank w ++ drop (a + m + length (blank w)) y)) moved
-    ∙ ap₂ (λ (f g : List ℕ). f ++ (blank w ++ g)) (take-at (x ++ r) (drop (a + m) b) (a + m) before) back
-    ∙ simp append-assoc
-  where
-    sums : (a m w : ℕ) → a + m + w ≡ a + (w + m)
-    sums a m w = omega arith
-
--- row i of n rows taken out of b, where it begins at a: rs are the rows behind it, which begin at f; the last row begins at z
-pub take-out : (w i n : ℕ) (b : List ℕ) (rs : List (List ℕ)) (a f z : ℕ) → i < n → length rs ≡ n - (i + 1) → a + (n - i) * w ≤ length b → f ≡ a + w → z ≡ a + (n - (i + 1)) * w → take ((n - (i + 1)) * w) (drop f b) ≡ flat rs
-    → (xs ys : List ℕ) → xs ≡ splice b a (take ((n - (i + 1)) * w) (drop f b)) → ys ≡ splice xs z (blank w) → ys ≡ putMid a ((n - i) * w) b (table (n - i) w rs)
-take-out w i n b rs a f z k c long ef ez part xs ys ex ey =
-    let m = (n - (i + 1)) * w in
-    let t = rest-rows i n w k .0 in
-    ey ∙ ap₂ (λ (x : List ℕ) (o : ℕ). splice x o (blank w)) (ex ∙ ap (λ (o : ℕ). splice b a (take m (drop o b))) ef) ez
-    ∙ close-up a w m b (omega arith)
-    ∙ ap₂ (λ (o : ℕ) (x : List ℕ). putMid a o b (x ++ blank w)) t (ap (λ (x : ℕ). take m (drop x b)) (sym ef) ∙ part)
-    ∙ ap (putMid a ((n - i) * w) b) (sym (table-free w rs (n - i) (omega arith)))

@@ -1,40 +1,31 @@
 -- Areas of the right lengths that are not checked yet: what `parse` reads from them and what the check asks, cell by cell, table by table.
 -- The shape check's code is proved against these laws. Assumes nothing.
 use mathlib.Core.Path.{_≡_, refl, sym, ap, ap₂, _∙_}
-use mathlib.Core.Bool.{Bool, true, false, _&&_}
+use mathlib.Core.Bool.{Bool, true, false, _&&_, and-true}
 use mathlib.Core.List.{List, [], _∷_, map, map-id}
-use Prim.Native.Nat.{ℕ, zero, suc, _+_, _-_, _*_, _≤_, _<_}
+use Prim.Native.Nat.{ℕ, zero, suc, _+_, _-_, _*_, _≤_}
 use native.Mathlib.Omega.{arith}
 use native.Mathlib.Nat.{not-suc-le-zero, mul-le-mul-right}
-use native.Mathlib.Numerals.{add-one}
 use lib.ListN.{length, take, drop, getD, length-drop, length-map, drop-of-length-le}
-use lib.Seq.{slice, take-all, take-take, drop-drop, drop-cons, getD-take, getD-drop, length-take-le}
+use lib.Seq.{slice, take-take, drop-drop, getD-take, getD-drop, length-take-le}
 use lib.Dec.{leb}
 use borrow.Author.Tests.{le-leb, leb-true}
-use borrow.Rule.Slice.PartMut.{midOf}
 use Rattle.cells.specs.Cells.{cells}
-use Rattle.cells.specs.Laws.{length-cells}
+use Rattle.cells.specs.CellLaws.{length-cells}
 use Rattle.cells.specs.Zeros.{zeros}
 use Rattle.model.specs.declared.Limits.{Limits}
 use Rattle.model.specs.Lists.{all}
 use Rattle.model.specs.Calls.{clients}
 use Rattle.model.specs.Serial.{Version}
-use Rattle.model.specs.Replica.{Pending}
-use Rattle.model.specs.ListLaws.{map-drop}
 use Rattle.layout.specs.Rows.{chunks}
-use Rattle.layout.specs.RowLaws.{length-chunks, chunks-at}
+use Rattle.layout.specs.RowLaws.{length-chunks}
 use Rattle.layout.specs.Codec.{Codec, cell, array, counted}
-use Rattle.layout.specs.Layout.{reader-of, reader, Row, row, object, record-cells, body, body-area, pending-from, all-from, Areas, row-count, parse, laid}
-use Rattle.layout.specs.Offsets.{last-at, reader-at, size-at, object-width, object-at, pending-at, row-width, row-at, record-length, body-width, body-at}
+use Rattle.layout.specs.Layout.{reader-of, reader, Row, row, object, front, tail, record-cells, body, body-area, all-from, Areas, row-count, parse, laid}
+use Rattle.layout.specs.Offsets.{last-at, reader-at, size-at, object-width, object-at, pending-at, row-width, row-at, tail-at, record-length, body-width, body-at}
 use Rattle.layout.specs.Field.{drop-take}
 use Rattle.layout.specs.Fields.{sizes}
 
 -- ---- rows of a list
-
-pub chunks-next : (w n : ℕ) (b : List ℕ) (i : ℕ) → i < n → drop i (chunks w n b) ≡ take w (drop (i * w) b) ∷ drop (i + 1) (chunks w n b)
-chunks-next w n b i h =
-    drop-cons (chunks w n b) i [] (omega (arith, length-chunks w n b))
-    ∙ ap₂ (λ (r : List ℕ) (k : ℕ). r ∷ drop k (chunks w n b)) (chunks-at w n b i h) (sym (add-one i))
 
 pub chunks-take : (w n m : ℕ) (b : List ℕ) → n * w ≤ m → chunks w n (take m b) ≡ chunks w n b
 unfolding chunks
@@ -61,6 +52,15 @@ blocks-in l w = chunks (object-width l) (size-in l w) (drop (object-at l 0) w)
 
 abbrev pub rows-in : Limits → List ℕ → List (List ℕ)
 rows-in l w = chunks (row-width l) (pending-in l w) (drop (row-at l 0) w)
+
+-- the check of each: its count, its rows, and zeros behind them
+abbrev pub objects-laid : Limits → List ℕ → Bool
+objects-laid l w =
+    leb (size-in l w) (l .objects) && (all (object l .ok) (blocks-in l w) && zeros (slice (object-at l (size-in l w)) (pending-at l) w))
+
+abbrev pub rows-laid : Limits → List ℕ → Bool
+rows-laid l w =
+    leb (pending-in l w) (l .pending) && (all (row (l .operations) .ok) (rows-in l w) && zeros (slice (row-at l (pending-in l w)) (tail-at l) w))
 
 -- a table with its count, which begins at the a-th number
 module _ {A : Type 0} (c : Codec A) (p a : ℕ) (w : List ℕ) where
@@ -112,75 +112,91 @@ array-ok c n b h e =
 -- ---- the record area, as cells
 
 module _ (l : Limits) (w : List ℕ) (e : length w ≡ record-cells l .size) where
-  abbrev objectTable : Codec (List (List Version))
-  objectTable = counted (l .objects) (object l)
+  abbrev object-table : Codec (List (List Version))
+  object-table = counted (l .objects) (object l)
 
-  abbrev rowTable : Codec (List Row)
-  rowTable = counted (l .pending) (row (l .operations))
+  abbrev row-table : Codec (List Row)
+  row-table = counted (l .pending) (row (l .operations))
 
-  -- where the two tables begin
-  to-objects : drop (l .readers * 1) (drop (clients * 1) (drop 1 w)) ≡ drop (size-at l) w
+  -- the cells of the front
+  abbrev f : List ℕ
+  f = take (front l .size) w
+
+  in-front : (a n : ℕ) → a + n ≤ front l .size → take n (drop a f) ≡ take n (drop a w)
+  in-front a n h =
+      ap (take n) (drop-take a (front l .size) w) ∙ take-take n (front l .size - a) (drop a w) (omega arith)
+
+  -- the two tables of the front
+  to-tables : drop (l .readers * 1) (drop (clients * 1) (drop 1 f)) ≡ take (object-table .size + row-table .size) (drop (size-at l) w)
   unfolding clients
-  to-objects =
-      let a : 1 + 16 * 1 + l .readers * 1 ≡ size-at l = omega arith in
-      drop-drop (l .readers * 1) (16 * 1) (drop 1 w) ∙ drop-drop (16 * 1 + l .readers * 1) 1 w ∙ ap (λ (k : ℕ). drop k w) (sums (l .readers))
+  to-tables =
+      drop-drop (l .readers * 1) (16 * 1) (drop 1 f) ∙ drop-drop (16 * 1 + l .readers * 1) 1 f
+      ∙ ap (λ (k : ℕ). drop k f) (sums (l .readers)) ∙ drop-take (size-at l) (front l .size) w
+      ∙ ap (λ (k : ℕ). take k (drop (size-at l) w)) (rest-of (l .readers) (object-table .size + row-table .size))
     where
-      sums : (r : ℕ) → 1 + (16 * 1 + r * 1) ≡ 17 + r
+      sums : (r : ℕ) → 1 + (16 * 1 + r * 1) ≡ reader-at r
       sums r = omega arith
 
-  to-rows : drop (objectTable .size) (drop (size-at l) w) ≡ take (rowTable .size) (drop (pending-at l) w)
+      rest-of : (r n : ℕ) → 1 + (16 * 1 + (r * 1 + n)) - reader-at r ≡ n
+      rest-of r n = omega arith
+
+  to-objects : take (object-table .size) (drop (l .readers * 1) (drop (clients * 1) (drop 1 f))) ≡ take (object-table .size) (drop (size-at l) w)
+  to-objects =
+      ap (take (object-table .size)) to-tables ∙ take-take (object-table .size) (object-table .size + row-table .size) (drop (size-at l) w) (omega arith)
+
+  to-rows : drop (object-table .size) (drop (l .readers * 1) (drop (clients * 1) (drop 1 f))) ≡ take (row-table .size) (drop (pending-at l) w)
   unfolding clients
   to-rows =
-      let a : size-at l + objectTable .size ≡ pending-at l = omega arith in
-      drop-drop (objectTable .size) (size-at l) w ∙ ap (λ (k : ℕ). drop k w) a
-      ∙ sym (take-all (rowTable .size) (drop (pending-at l) w) (omega (arith, length-drop (pending-at l) w)))
+      let a : size-at l + object-table .size ≡ pending-at l = omega arith in
+      let b : object-table .size + row-table .size - object-table .size ≡ row-table .size = omega arith in
+      ap (drop (object-table .size)) to-tables ∙ drop-take (object-table .size) (object-table .size + row-table .size) (drop (size-at l) w)
+      ∙ ap₂ (λ (k : ℕ) (x : List ℕ). take k x) b (drop-drop (object-table .size) (size-at l) w ∙ ap (λ (k : ℕ). drop k w) a)
 
-  pub timestamp-in : record-cells l .dec w .0 ≡ getD w 0 0
-  timestamp-in = getD-take 1 w 0 0 (omega arith)
+  pub timestamp-in : record-cells l .dec w .0 .0 ≡ getD w 0 0
+  timestamp-in = getD-take 1 f 0 0 (omega arith) ∙ getD-take (front l .size) w 0 0 (omega arith)
 
-  pub lasts-in : record-cells l .dec w .1 .0 ≡ take clients (drop (last-at 0) w)
+  pub lasts-in : record-cells l .dec w .0 .1 .0 ≡ take clients (drop (last-at 0) w)
   lasts-in =
       let m : clients * 1 ≡ clients = omega arith in
-      ap (λ (k : ℕ). map (λ r. getD r 0 0) (chunks 1 clients (take k (drop 1 w)))) m
+      ap (λ (x : List ℕ). map (λ r. getD r 0 0) (chunks 1 clients x)) (in-front 1 (clients * 1) (omega arith))
+      ∙ ap (λ (k : ℕ). map (λ r. getD r 0 0) (chunks 1 clients (take k (drop 1 w)))) m
       ∙ ap (map (λ r. getD r 0 0)) (chunks-take 1 clients clients (drop 1 w) (omega arith))
       ∙ chunks-one (λ x. x) clients (drop 1 w) (omega (arith, length-drop 1 w))
       ∙ map-id (take clients (drop 1 w))
 
-  pub readers-in : record-cells l .dec w .1 .1 .0 ≡ map reader-of (take (l .readers) (drop (reader-at 0) w))
+  pub readers-in : record-cells l .dec w .0 .1 .1 .0 ≡ map reader-of (take (l .readers) (drop (reader-at 0) w))
   unfolding clients
   readers-in =
       let m : l .readers * 1 ≡ l .readers = omega arith in
-      ap (λ (k : ℕ). map (λ r. reader-of (getD r 0 0)) (chunks 1 (l .readers) (take k (drop 16 (drop 1 w))))) m
-      ∙ ap (map (λ r. reader-of (getD r 0 0))) (chunks-take 1 (l .readers) (l .readers) (drop 16 (drop 1 w)) (omega arith))
-      ∙ chunks-one reader-of (l .readers) (drop 16 (drop 1 w)) (omega (arith, length-drop 1 w, length-drop 16 (drop 1 w)))
-      ∙ ap (λ (x : List ℕ). map reader-of (take (l .readers) x)) (drop-drop 16 1 w)
+      ap (λ (x : List ℕ). map (λ r. reader-of (getD r 0 0)) (chunks 1 (l .readers) x)) (ap (take (l .readers * 1)) (drop-drop 16 1 f) ∙ in-front (reader-at 0) (l .readers * 1) (omega arith))
+      ∙ ap (λ (k : ℕ). map (λ r. reader-of (getD r 0 0)) (chunks 1 (l .readers) (take k (drop (reader-at 0) w)))) m
+      ∙ ap (map (λ r. reader-of (getD r 0 0))) (chunks-take 1 (l .readers) (l .readers) (drop (reader-at 0) w) (omega arith))
+      ∙ chunks-one reader-of (l .readers) (drop (reader-at 0) w) (omega (arith, length-drop (reader-at 0) w))
 
-  pub objects-in : size-in l w ≤ l .objects → record-cells l .dec w .1 .1 .1 .0 ≡ map (object l .dec) (blocks-in l w)
+  pub objects-in : size-in l w ≤ l .objects → record-cells l .dec w .0 .1 .1 .1 .0 ≡ map (object l .dec) (blocks-in l w)
   objects-in h =
       let a : 1 + size-at l ≡ object-at l 0 = omega arith in
-      ap (λ (x : List ℕ). objectTable .dec (take (objectTable .size) x)) to-objects
+      ap (object-table .dec) to-objects
       ∙ counted-dec (object l) (l .objects) (size-at l) w h
       ∙ ap₂ (λ (k i : ℕ). map (object l .dec) (chunks k (size-in l w) (drop i w))) (sizes l .0) a
 
-  pub rows-are-in : pending-in l w ≤ l .pending → record-cells l .dec w .1 .1 .1 .1 ≡ map (row (l .operations) .dec) (rows-in l w)
+  pub rows-are-in : pending-in l w ≤ l .pending → record-cells l .dec w .0 .1 .1 .1 .1 ≡ map (row (l .operations) .dec) (rows-in l w)
   rows-are-in h =
       let a : 1 + pending-at l ≡ row-at l 0 = omega arith in
-      ap (λ (x : List ℕ). rowTable .dec (drop (objectTable .size) x)) to-objects
-      ∙ ap (rowTable .dec) to-rows
+      ap (row-table .dec) to-rows
       ∙ counted-dec (row (l .operations)) (l .pending) (pending-at l) w h
       ∙ ap₂ (λ (k i : ℕ). map (row (l .operations) .dec) (chunks k (pending-in l w) (drop i w))) (sizes l .1) a
 
   -- the number of rows, whatever it is
   pub row-count-in : row-count (record-cells l .dec w) ≡ pending-in l w
   row-count-in =
-      ap (λ (x : List ℕ). length (rowTable .dec (drop (objectTable .size) x))) to-objects
-      ∙ ap (λ (x : List ℕ). length (rowTable .dec x)) to-rows
-      ∙ length-map (chunks (row (l .operations) .size) (getD (take (rowTable .size) (drop (pending-at l) w)) 0 0) (drop 1 (take (rowTable .size) (drop (pending-at l) w)))) (row (l .operations) .dec)
-      ∙ length-chunks (row (l .operations) .size) (getD (take (rowTable .size) (drop (pending-at l) w)) 0 0) (drop 1 (take (rowTable .size) (drop (pending-at l) w)))
+      ap (λ (x : List ℕ). length (row-table .dec x)) to-rows
+      ∙ length-map (chunks (row (l .operations) .size) (getD (take (row-table .size) (drop (pending-at l) w)) 0 0) (drop 1 (take (row-table .size) (drop (pending-at l) w)))) (row (l .operations) .dec)
+      ∙ length-chunks (row (l .operations) .size) (getD (take (row-table .size) (drop (pending-at l) w)) 0 0) (drop 1 (take (row-table .size) (drop (pending-at l) w)))
       ∙ first (row (l .operations)) (l .pending) (pending-at l) w
 
   -- the check: each table's count, its rows, and zeros behind them
-  objects-ok : objectTable .ok (take (objectTable .size) (drop (size-at l) w)) ≡ leb (size-in l w) (l .objects) && (all (object l .ok) (blocks-in l w) && zeros (slice (object-at l (size-in l w)) (pending-at l) w))
+  objects-ok : object-table .ok (take (object-table .size) (drop (size-at l) w)) ≡ objects-laid l w
   objects-ok =
       let n = size-in l w in
       let k = object-width l in
@@ -189,9 +205,10 @@ module _ (l : Limits) (w : List ℕ) (e : length w ≡ record-cells l .size) whe
       let g : object-at l 0 + n * k ≡ object-at l n = omega arith in
       counted-ok (object l) (l .objects) (size-at l) w
       ∙ ap₂ (λ (k i : ℕ). leb n (l .objects) && (all (object l .ok) (chunks k n (drop i w)) && zeros (take (l .objects * k - n * k) (drop (n * k) (drop i w))))) (sizes l .0) a
-      ∙ ap (λ (x : List ℕ). leb n (l .objects) && (all (object l .ok) (blocks-in l w) && zeros x)) (ap₂ (λ (i : ℕ) (x : List ℕ). take i x) d (drop-drop (n * k) (object-at l 0) w ∙ ap (λ (i : ℕ). drop i w) g) ∙ sym (drop-take (object-at l n) (pending-at l) w))
+      ∙ ap (λ (x : List ℕ). leb n (l .objects) && (all (object l .ok) (blocks-in l w) && zeros x))
+      (ap₂ (λ (i : ℕ) (x : List ℕ). take i x) d (drop-drop (n * k) (object-at l 0) w ∙ ap (λ (i : ℕ). drop i w) g) ∙ sym (drop-take (object-at l n) (pending-at l) w))
 
-  rows-ok : rowTable .ok (take (rowTable .size) (drop (pending-at l) w)) ≡ leb (pending-in l w) (l .pending) && (all (row (l .operations) .ok) (rows-in l w) && zeros (slice (row-at l (pending-in l w)) (row-at l (l .pending)) w))
+  rows-ok : row-table .ok (take (row-table .size) (drop (pending-at l) w)) ≡ rows-laid l w
   rows-ok =
       let n = pending-in l w in
       let k = row-width l in
@@ -200,31 +217,24 @@ module _ (l : Limits) (w : List ℕ) (e : length w ≡ record-cells l .size) whe
       let g : row-at l 0 + n * k ≡ row-at l n = omega arith in
       counted-ok (row (l .operations)) (l .pending) (pending-at l) w
       ∙ ap₂ (λ (k i : ℕ). leb n (l .pending) && (all (row (l .operations) .ok) (chunks k n (drop i w)) && zeros (take (l .pending * k - n * k) (drop (n * k) (drop i w))))) (sizes l .1) a
-      ∙ ap (λ (x : List ℕ). leb n (l .pending) && (all (row (l .operations) .ok) (rows-in l w) && zeros x)) (ap₂ (λ (i : ℕ) (x : List ℕ). take i x) d (drop-drop (n * k) (row-at l 0) w ∙ ap (λ (i : ℕ). drop i w) g) ∙ sym (drop-take (row-at l n) (row-at l (l .pending)) w))
+      ∙ ap (λ (x : List ℕ). leb n (l .pending) && (all (row (l .operations) .ok) (rows-in l w) && zeros x))
+      (ap₂ (λ (i : ℕ) (x : List ℕ). take i x) d (drop-drop (n * k) (row-at l 0) w ∙ ap (λ (i : ℕ). drop i w) g) ∙ sym (drop-take (row-at l n) (row-at l (l .pending)) w))
 
-  pub record-ok : record-cells l .ok w
-      ≡ (leb (size-in l w) (l .objects) && (all (object l .ok) (blocks-in l w) && zeros (slice (object-at l (size-in l w)) (pending-at l) w)))
-      && (leb (pending-in l w) (l .pending) && (all (row (l .operations) .ok) (rows-in l w) && zeros (slice (row-at l (pending-in l w)) (row-at l (l .pending)) w)))
-  record-ok =
-      let a : length (take (clients * 1) (drop 1 w)) ≡ clients * 1 = length-take-le (clients * 1) (drop 1 w) (omega (arith, length-drop 1 w)) in
-      let b : length (take (l .readers * 1) (drop (clients * 1) (drop 1 w))) ≡ l .readers * 1 = length-take-le (l .readers * 1) (drop (clients * 1) (drop 1 w)) (omega (arith, length-drop 1 w, length-drop (clients * 1) (drop 1 w))) in
-      ap₂ _&&_ (array-ok cell clients (take (clients * 1) (drop 1 w)) (λ r. refl) a)
-      (ap₂ _&&_ (array-ok reader (l .readers) (take (l .readers * 1) (drop (clients * 1) (drop 1 w))) (λ r. refl) b)
-      (ap (λ (x : List ℕ). objectTable .ok (take (objectTable .size) x) && rowTable .ok (drop (objectTable .size) x)) to-objects
-      ∙ ap₂ _&&_ objects-ok (ap (rowTable .ok) to-rows ∙ rows-ok)))
+  front-ok : front l .ok f ≡ objects-laid l w && rows-laid l w
+  front-ok =
+      let len : length f ≡ front l .size = length-take-le (front l .size) w (omega arith) in
+      let a : length (take (clients * 1) (drop 1 f)) ≡ clients * 1 = length-take-le (clients * 1) (drop 1 f) (omega (arith, length-drop 1 f)) in
+      let b : length (take (l .readers * 1) (drop (clients * 1) (drop 1 f))) ≡ l .readers * 1 = length-take-le (l .readers * 1) (drop (clients * 1) (drop 1 f)) (omega (arith, length-drop 1 f, length-drop (clients * 1) (drop 1 f))) in
+      ap₂ _&&_ (array-ok cell clients (take (clients * 1) (drop 1 f)) (λ r. refl) a)
+      (ap₂ _&&_ (array-ok reader (l .readers) (take (l .readers * 1) (drop (clients * 1) (drop 1 f))) (λ r. refl) b)
+      (ap₂ _&&_ (ap (object-table .ok) to-objects ∙ objects-ok) (ap (row-table .ok) to-rows ∙ rows-ok)))
 
--- ---- rows and bodies, put together
+  -- the tail is empty, and says nothing
+  tail-ok : tail l .ok (drop (front l .size) w) ≡ true
+  tail-ok = array-ok cell 0 (drop (front l .size) w) (λ r. refl) (omega (arith, length-drop (front l .size) w))
 
-length-from : (rs : List Row) (bs : List (List ℕ)) → length (all-from rs bs) ≡ length rs
-length-from [] bs = refl
-length-from (r ∷ rs) bs = ap suc (length-from rs (drop 1 bs))
-
-drop-from : (i : ℕ) (rs : List Row) (bs : List (List ℕ)) → drop i (all-from rs bs) ≡ all-from (drop i rs) (drop i bs)
-drop-from zero rs bs = refl
-drop-from (suc i) [] bs = refl
-drop-from (suc i) (r ∷ rs) bs =
-    let e : 1 + i ≡ suc i = omega arith in
-    drop-from i rs (drop 1 bs) ∙ ap (all-from (drop i rs)) (drop-drop i 1 bs ∙ ap (λ (k : ℕ). drop k bs) e)
+  pub record-ok : record-cells l .ok w ≡ objects-laid l w && rows-laid l w
+  record-ok = ap₂ _&&_ front-ok tail-ok ∙ and-true (objects-laid l w && rows-laid l w)
 
 -- ---- both areas
 
@@ -240,8 +250,7 @@ module _ (l : Limits) (a : Areas) (e : length (a .0) ≡ record-length l) where
 
   -- the layout's check
   pub laid-is : laid l a
-      ≡ ((leb (size-in l w) (l .objects) && (all (object l .ok) (blocks-in l w) && zeros (slice (object-at l (size-in l w)) (pending-at l) w)))
-      && (leb (pending-in l w) (l .pending) && (all (row (l .operations) .ok) (rows-in l w) && zeros (slice (row-at l (pending-in l w)) (row-at l (l .pending)) w))))
+      ≡ (objects-laid l w && rows-laid l w)
       && (leb (pending-in l w) (l .pending) && (all (body (l .operations) .ok) bodies-in && zeros (drop (body-at l (pending-in l w)) (a .1))))
   unfolding laid
   laid-is =
@@ -268,42 +277,3 @@ module _ (l : Limits) (a : Areas) (e : length (a .0) ≡ record-length l) where
   unfolding parse
   parsed-pending h =
       ap₂ (λ (rs : List Row) (k : ℕ). all-from rs (map (body (l .operations) .dec) (chunks (body-width l) k (a .1)))) (rows-are-in l w cells-whole h) (row-count-in l w cells-whole)
-
-  -- ---- from the front on, as loops go
-
-  pub objects-count : size-in l w ≤ l .objects → length (parse l a .objects) ≡ size-in l w
-  objects-count h =
-      ap length (parsed-objects h) ∙ length-map (blocks-in l w) (object l .dec) ∙ length-chunks (object-width l) (size-in l w) (drop (object-at l 0) w)
-
-  pub objects-next : size-in l w ≤ l .objects → (i : ℕ) → i < size-in l w → drop i (parse l a .objects) ≡ object l .dec (midOf (object-at l i) (object-width l) w) ∷ drop (i + 1) (parse l a .objects)
-  objects-next h i low =
-      let f = object l .dec in
-      let n = size-in l w in
-      let at : object-at l 0 + i * object-width l ≡ object-at l i = omega arith in
-      ap (drop i) (parsed-objects h) ∙ sym (map-drop f i (blocks-in l w)) ∙ ap (map f) (chunks-next (object-width l) n (drop (object-at l 0) w) i low)
-      ∙ ap₂ (λ (x : List ℕ) (xs : List (List Version)). f (take (object-width l) x) ∷ xs) (drop-drop (i * object-width l) (object-at l 0) w ∙ ap (λ (k : ℕ). drop k w) at) (map-drop f (i + 1) (blocks-in l w) ∙ ap (drop (i + 1)) (sym (parsed-objects h)))
-
-  abbrev pending-at-place : ℕ → Pending
-  pending-at-place i =
-      pending-from (row (l .operations) .dec (midOf (row-at l i) (row-width l) w)) (body (l .operations) .dec (midOf (body-at l i) (body-width l) (a .1)))
-
-  pub pending-count : pending-in l w ≤ l .pending → length (parse l a .pending) ≡ pending-in l w
-  pending-count h =
-      ap length (parsed-pending h) ∙ length-from (map (row (l .operations) .dec) (rows-in l w)) (map (body (l .operations) .dec) bodies-in) ∙ length-map (rows-in l w) (row (l .operations) .dec)
-      ∙ length-chunks (row-width l) (pending-in l w) (drop (row-at l 0) w)
-
-  pub pending-next : pending-in l w ≤ l .pending → (i : ℕ) → i < pending-in l w → drop i (parse l a .pending) ≡ pending-at-place i ∷ drop (i + 1) (parse l a .pending)
-  pending-next h i low =
-      let n = pending-in l w in
-      let f = row (l .operations) .dec in
-      let g = body (l .operations) .dec in
-      let rs = map f (rows-in l w) in
-      let bs = map g bodies-in in
-      let at : row-at l 0 + i * row-width l ≡ row-at l i = omega arith in
-      let r : drop i rs ≡ f (midOf (row-at l i) (row-width l) w) ∷ drop (i + 1) rs =
-      sym (map-drop f i (rows-in l w)) ∙ ap (map f) (chunks-next (row-width l) n (drop (row-at l 0) w) i low)
-      ∙ ap₂ (λ (x : List ℕ) (xs : List Row). f (take (row-width l) x) ∷ xs) (drop-drop (i * row-width l) (row-at l 0) w ∙ ap (λ (k : ℕ). drop k w) at) (map-drop f (i + 1) (rows-in l w)) in
-      let b : drop i bs ≡ g (midOf (body-at l i) (body-width l) (a .1)) ∷ drop (i + 1) bs =
-      sym (map-drop g i bodies-in) ∙ ap (map g) (chunks-next (body-width l) n (a .1) i low) ∙ ap (λ (xs : List (List ℕ)). g (midOf (body-at l i) (body-width l) (a .1)) ∷ xs) (map-drop g (i + 1) bodies-in) in
-      ap (drop i) (parsed-pending h) ∙ drop-from i rs bs ∙ ap₂ all-from r b
-      ∙ ap (λ (xs : List Pending). pending-at-place i ∷ xs) (sym (drop-from (i + 1) rs bs) ∙ ap (drop (i + 1)) (sym (parsed-pending h)))

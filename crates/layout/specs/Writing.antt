@@ -8,7 +8,7 @@ use native.Mathlib.Nat.{mul-assoc, mul-le-mul-right, zero-add}
 use lib.ListN.{length, take, drop, set, length-append, length-drop, length-map, length-set}
 use lib.Seq.{length-take-le}
 use borrow.Rule.Slice.PartMut.{putMid, same-len-mid}
-use Rattle.cells.specs.Cells.{uncells, putCell, Put}
+use Rattle.cells.specs.Cells.{uncells, cell-put, Put}
 use Rattle.cells.specs.Uncells.{uncells-back, uncells-set}
 use Rattle.model.specs.declared.Limits.{Limits}
 use Rattle.model.specs.Calls.{clients}
@@ -17,24 +17,24 @@ use Rattle.model.specs.Replica.{Replica}
 use Rattle.model.specs.ListLaws.{All, all-join, all-take, all-set}
 use Rattle.layout.specs.Rows.{flat, table}
 use Rattle.layout.specs.RowLaws.{split-rows, table-length, table-full}
-use Rattle.layout.specs.Codec.{Codec, counted, inBytes}
-use Rattle.layout.specs.Layout.{of-reader, Record, object, record-cells, record-area, record-of}
+use Rattle.layout.specs.Codec.{Codec, counted, bytewise}
+use Rattle.layout.specs.Layout.{of-reader, RecordArea, object, record-cells, record-area, record-of}
 use Rattle.layout.specs.Offsets.{Sane, last-at, reader-at, size-at, object-width, object-at}
 use Rattle.layout.specs.Lawful.{Sized, uniform, Word}
-use Rattle.layout.specs.Printable.{ReaderFits, ObjectFits, RowsFit, RecordFits, Printable, record-fits, fits-record}
+use Rattle.layout.specs.Printable.{ReaderFits, ObjectFits, RecordFits, Printable, record-fits, fits-record}
 use Rattle.layout.specs.Field.{Field, cell-write, part-write, count-write, in-bytes}
-use Rattle.layout.specs.Tables.{bytes-table, rows-replace, counted-replace}
-use Rattle.layout.specs.Fields.{With, ObjectThere, sized-object, sized-objects, sized-rows, timestamp-field, objects-field, last-field, reader-field, object-field, sizes, table-offsets, last-offset, reader-offset, object-offset}
+use Rattle.layout.specs.TableChanges.{bytes-table, rows-replace, counted-replace}
+use Rattle.layout.specs.Fields.{object-there, sized-object, sized-objects, sized-rows, timestamp-field, objects-field, last-field, reader-field, object-field, sizes, table-offsets, last-offset, reader-offset, object-offset}
 use Rattle.layout.specs.Holds.{Holds, with-timestamp, with-objects, with-lasts, with-readers}
 
 module _ (l : Limits) (s : Sane l) (b : List ℕ) (u : Replica) (h : Holds l b u) where
   -- ---- any field: one cell, a part, and the rows of a table from i on
 
-  module _ {B : Type 0} {P : Record → Type 0} {f : Codec B} {Q : B → Type 0} (F : Field (record-cells l) P f Q) (p : P (record-of u)) (x : B) (q : Q x) (ys : List ℕ) where
+  module _ {B : Type 0} {P : RecordArea → Type 0} {f : Codec B} {Q : B → Type 0} (F : Field (record-cells l) P f Q) (p : P (record-of u)) (x : B) (q : Q x) (ys : List ℕ) where
     pub put-field : f .size ≡ 1 → (v : ℕ) → f .enc x ≡ v ∷ [] → (i : ℕ) → F .at ≡ i → Put b ys i v → ys ≡ record-area l .enc (F .put x (record-of u))
     put-field one v e i at w =
         let c = record-cells l .enc (record-of u) in
-        w .whole ∙ ap₂ (λ (z : List ℕ) (j : ℕ). putCell z j v) (h .same) (sym at)
+        w .whole ∙ ap₂ (λ (z : List ℕ) (j : ℕ). cell-put z j v) (h .same) (sym at)
         ∙ uncells-set c (F .at) v (omega (arith, F .inside, F .len (record-of u) p))
         ∙ ap uncells (cell-write F (record-of u) p one x q v e)
 
@@ -44,21 +44,21 @@ module _ (l : Limits) (s : Sane l) (b : List ℕ) (u : Replica) (h : Holds l b u
         ∙ ap₂ (λ (j k : ℕ). putMid (j * 8) (k * 8) (uncells (record-cells l .enc (record-of u))) (uncells (f .enc x))) (sym at) (sym w)
         ∙ in-bytes F .write (record-of u) p x q
 
-  module _ {B : Type 0} {P : Record → Type 0} {c : Codec B} {R : B → Type 0} {n : ℕ} (z : Sized c R) (F : Field (record-cells l) P (counted n c) (λ xs. (length xs ≤ n) × All R xs)) (p : P (record-of u)) where
+  module _ {B : Type 0} {P : RecordArea → Type 0} {c : Codec B} {R : B → Type 0} {n : ℕ} (z : Sized c R) (F : Field (record-cells l) P (counted n c) (λ xs. (length xs ≤ n) × All R xs)) (p : P (record-of u)) where
     -- xs in the places from i up to q, which hold all rows from i on; and then the count
     pub replace-field : (i q : ℕ) → i ≤ length (F .get (record-of u)) → length (F .get (record-of u)) ≤ q → q ≤ n → (xs : List B) → All R xs → length xs ≤ q - i
         → (a k t : ℕ) → F .at + (1 + i * c .size) ≡ a → c .size ≡ k → F .at ≡ t
-        → (ys zs : List ℕ) → ys ≡ putMid (a * 8) ((q - i) * (k * 8)) b (table (q - i) (k * 8) (map (inBytes c .enc) xs)) → Put ys zs t (i + length xs)
+        → (ys zs : List ℕ) → ys ≡ putMid (a * 8) ((q - i) * (k * 8)) b (table (q - i) (k * 8) (map (bytewise c .enc) xs)) → Put ys zs t (i + length xs)
         → zs ≡ record-area l .enc (F .put (take i (F .get (record-of u)) ++ xs) (record-of u))
     replace-field i q low few most xs g room a k t e w at ys zs ey ez =
         let W = record-cells l .enc (record-of u) in
         let olds = F .get (record-of u) in
         let rs = map (c .enc) xs in
         let m : (q - i) * (k * 8) ≡ (q - i) * c .size * 8 = ap (λ (j : ℕ). (q - i) * (j * 8)) (sym w) ∙ sym (mul-assoc (q - i) (c .size) 8) in
-        let v : table (q - i) (k * 8) (map (inBytes c .enc) xs) ≡ uncells (table (q - i) (c .size) rs) =
-        ap (λ (j : ℕ). table (q - i) (j * 8) (map (inBytes c .enc) xs)) (sym w) ∙ sym (bytes-table c (q - i) xs) in
+        let v : table (q - i) (k * 8) (map (bytewise c .enc) xs) ≡ uncells (table (q - i) (c .size) rs) =
+        ap (λ (j : ℕ). table (q - i) (j * 8) (map (bytewise c .enc) xs)) (sym w) ∙ sym (bytes-table c (q - i) xs) in
         let y : ys ≡ uncells (putMid (F .at + (1 + i * c .size)) ((q - i) * c .size) W (table (q - i) (c .size) rs)) =
-        ey ∙ ap (λ (x : List ℕ). putMid (a * 8) ((q - i) * (k * 8)) x (table (q - i) (k * 8) (map (inBytes c .enc) xs))) (h .same)
+        ey ∙ ap (λ (x : List ℕ). putMid (a * 8) ((q - i) * (k * 8)) x (table (q - i) (k * 8) (map (bytewise c .enc) xs))) (h .same)
         ∙ ap₂ (λ (j : ℕ) (x : List ℕ). putMid (j * 8) ((q - i) * (k * 8)) (uncells W) x) (sym e) v
         ∙ ap (λ (j : ℕ). putMid ((F .at + (1 + i * c .size)) * 8) j (uncells W) (uncells (table (q - i) (c .size) rs))) m
         ∙ uncells-back (F .at + (1 + i * c .size)) ((q - i) * c .size) W (table (q - i) (c .size) rs) in
@@ -71,16 +71,17 @@ module _ (l : Limits) (s : Sane l) (b : List ℕ) (u : Replica) (h : Holds l b u
         let wide : length (putMid (F .at + (1 + i * c .size)) ((q - i) * c .size) W (table (q - i) (c .size) rs)) ≡ length W =
         same-len-mid (F .at + (1 + i * c .size)) ((q - i) * c .size) W (table (q - i) (c .size) rs)
         (len ∙ sym (length-take-le ((q - i) * c .size) (drop (F .at + (1 + i * c .size)) W) (omega (arith, length-drop (F .at + (1 + i * c .size)) W, F .len (record-of u) p)))) in
-        ez .whole ∙ ap₂ (λ (x : List ℕ) (j : ℕ). putCell x j (i + length xs)) y (sym at)
+        ez .whole ∙ ap₂ (λ (x : List ℕ) (j : ℕ). cell-put x j (i + length xs)) y (sym at)
         ∙ uncells-set (putMid (F .at + (1 + i * c .size)) ((q - i) * c .size) W (table (q - i) (c .size) rs)) (F .at) (i + length xs) (omega (arith, F .len (record-of u) p))
         ∙ ap uncells
-        (count-write F (record-of u) p (take i olds ++ xs) (new, all-join R (take i olds) xs (all-take R i olds (F .got (record-of u) p .1)) g) (1 + i * c .size) ((q - i) * c .size) (i + length xs) (table (q - i) (c .size) rs) (omega arith) fit len
+        (count-write F (record-of u) p (take i olds ++ xs) (new, all-join R (take i olds) xs (all-take R i olds (F .got (record-of u) p .1)) g)
+        (1 + i * c .size) ((q - i) * c .size) (i + length xs) (table (q - i) (c .size) rs) (omega arith) fit len
         (counted-replace z n olds (F .got (record-of u) p .1) i q low few most xs room))
 
     -- xs in the place of the rows from i on, as many as they are
     pub rewrite-field : (i : ℕ) → i ≤ length (F .get (record-of u)) → (xs : List B) → All R xs → length xs ≡ length (F .get (record-of u)) - i
         → (a k : ℕ) → F .at + (1 + i * c .size) ≡ a → c .size ≡ k
-        → (ys : List ℕ) → ys ≡ putMid (a * 8) (length xs * (k * 8)) b (flat (map (inBytes c .enc) xs))
+        → (ys : List ℕ) → ys ≡ putMid (a * 8) (length xs * (k * 8)) b (flat (map (bytewise c .enc) xs))
         → ys ≡ record-area l .enc (F .put (take i (F .get (record-of u)) ++ xs) (record-of u))
     rewrite-field i low xs g same a k e w ys ey =
         let W = record-cells l .enc (record-of u) in
@@ -89,8 +90,8 @@ module _ (l : Limits) (s : Sane l) (b : List ℕ) (u : Replica) (h : Holds l b u
         let y = length xs in
         let N = length olds in
         let m : y * (k * 8) ≡ y * c .size * 8 = ap (λ (j : ℕ). y * (j * 8)) (sym w) ∙ sym (mul-assoc y (c .size) 8) in
-        let v : flat (map (inBytes c .enc) xs) ≡ uncells (table y (c .size) (map (c .enc) xs)) =
-        sym (table-full (c .size * 8) (map (inBytes c .enc) xs) y (length-map xs (inBytes c .enc))) ∙ sym (bytes-table c y xs) in
+        let v : flat (map (bytewise c .enc) xs) ≡ uncells (table y (c .size) (map (c .enc) xs)) =
+        sym (table-full (c .size * 8) (map (bytewise c .enc) xs) y (length-map xs (bytewise c .enc))) ∙ sym (bytes-table c y xs) in
         let n′ : length (take i olds ++ xs) ≡ N = omega (arith, length-append (take i olds) xs, length-take-le i olds low) in
         let fit : 1 + i * c .size + y * c .size ≤ 1 + n * c .size =
         omega (arith, ap (λ (j : ℕ). j * c .size) same, split-rows N i (c .size) low, mul-le-mul-right (c .size) (old .0)) in
@@ -111,9 +112,10 @@ module _ (l : Limits) (s : Sane l) (b : List ℕ) (u : Replica) (h : Holds l b u
 
   pub put-timestamp : (v : ℕ) → Word v → (ys : List ℕ) → Put b ys 0 v → Holds l ys (with-timestamp v u)
   put-timestamp v g ys w =
+      let F = timestamp-field l (sized-objects l s) (sized-rows l s) in
       record {
-        same = put-field (timestamp-field l (sized-objects l s) (sized-rows l s)) known v g ys refl v refl 0 refl w;
-        fits = fits-record l (with-timestamp v u) (g, known .1) (h .fits .bodies);
+        same = put-field F known v g ys refl v refl 0 refl w;
+        fits = fits-record l (with-timestamp v u) (F .kept (record-of u) known v g) (h .fits .bodies);
       }
 
   pub put-last : (c : ℕ) → c < clients → (v : ℕ) → Word v → (ys : List ℕ) → Put b ys (last-at c) v → Holds l ys (with-lasts (set (u .lasts) c v) u)
@@ -136,7 +138,7 @@ module _ (l : Limits) (s : Sane l) (b : List ℕ) (u : Replica) (h : Holds l b u
 
   fits-objects : (xs : List (List Version)) → length xs ≤ l .objects → All (ObjectFits (l .readers)) xs → Printable l (with-objects xs u)
   fits-objects xs few g =
-      fits-record l (with-objects xs u) (known .0, (known .1 .0, (known .1 .1 .0, ((few, g), known .1 .1 .1 .1)))) (h .fits .bodies)
+      fits-record l (with-objects xs u) (objects-field l (sized-objects l s) (sized-rows l s) .kept (record-of u) known xs (few, g)) (h .fits .bodies)
 
   -- object i
   pub write-object : (i : ℕ) → i < length (u .objects) → (vs : List Version) → ObjectFits (l .readers) vs → (ys : List ℕ) → ys ≡ putMid (object-at l i * 8) (object-width l * 8) b (uncells (object l .enc vs))
@@ -144,15 +146,14 @@ module _ (l : Limits) (s : Sane l) (b : List ℕ) (u : Replica) (h : Holds l b u
   write-object i k vs g ys e =
       let few = h .fits .objects .0 in
       let low : i < l .objects = omega arith in
-      let there : With l (ObjectThere l i) (RowsFit l) (record-of u) = (known .0, (known .1 .0, (known .1 .1 .0, ((few, h .fits .objects .1, k), known .1 .1 .1 .1)))) in
       record {
-        same = write-field (object-field l s i low) there vs g ys (object-at l i) (object-width l) (object-offset l s i low) (sizes l .0) e;
+        same = write-field (object-field l s i low) (object-there l u (h .fits) i k) vs g ys (object-at l i) (object-width l) (object-offset l s i low) (sizes l .0) e;
         fits = fits-objects (set (u .objects) i vs) (omega (arith, length-set (u .objects) i vs)) (all-set (ObjectFits (l .readers)) (u .objects) i vs (h .fits .objects .1) g);
       }
 
   -- all of them, as many as there are
-  pub write-objects : (xs : List (List Version)) → length xs ≡ length (u .objects) → All (ObjectFits (l .readers)) xs → (ys : List ℕ) → ys ≡ putMid (object-at l 0 * 8) (length xs * (object-width l * 8)) b (flat (map (inBytes (object l) .enc) xs))
-      → Holds l ys (with-objects xs u)
+  pub write-objects : (xs : List (List Version)) → length xs ≡ length (u .objects) → All (ObjectFits (l .readers)) xs
+      → (ys : List ℕ) → ys ≡ putMid (object-at l 0 * 8) (length xs * (object-width l * 8)) b (flat (map (bytewise (object l) .enc) xs)) → Holds l ys (with-objects xs u)
   write-objects xs n g ys e =
       record {
         same = rewrite-field (sized-object l s) (objects-field l (sized-objects l s) (sized-rows l s)) known 0 (omega arith) xs g (omega arith) (object-at l 0) (object-width l) (omega (arith, table-offsets l s .0)) (sizes l .0) ys e;
@@ -161,16 +162,18 @@ module _ (l : Limits) (s : Sane l) (b : List ℕ) (u : Replica) (h : Holds l b u
 
   -- the first ones
   pub open-objects : u .objects ≡ [] → (xs : List (List Version)) → length xs ≤ l .objects → All (ObjectFits (l .readers)) xs
-      → (ys zs : List ℕ) → ys ≡ putMid (object-at l 0 * 8) (length xs * (object-width l * 8)) b (flat (map (inBytes (object l) .enc) xs)) → Put ys zs (size-at l) (length xs)
+      → (ys zs : List ℕ) → ys ≡ putMid (object-at l 0 * 8) (length xs * (object-width l * 8)) b (flat (map (bytewise (object l) .enc) xs)) → Put ys zs (size-at l) (length xs)
       → Holds l zs (with-objects xs u)
   open-objects none xs few g ys zs ey ez =
       let y = length xs in
       let z : y - 0 ≡ y = omega arith in
-      let full : flat (map (inBytes (object l) .enc) xs) ≡ table (y - 0) (object-width l * 8) (map (inBytes (object l) .enc) xs) =
-      sym (table-full (object-width l * 8) (map (inBytes (object l) .enc) xs) (y - 0) (length-map xs (inBytes (object l) .enc) ∙ sym z)) in
-      let e : ys ≡ putMid (object-at l 0 * 8) ((y - 0) * (object-width l * 8)) b (table (y - 0) (object-width l * 8) (map (inBytes (object l) .enc) xs)) =
+      let full : flat (map (bytewise (object l) .enc) xs) ≡ table (y - 0) (object-width l * 8) (map (bytewise (object l) .enc) xs) =
+      sym (table-full (object-width l * 8) (map (bytewise (object l) .enc) xs) (y - 0) (length-map xs (bytewise (object l) .enc) ∙ sym z)) in
+      let e : ys ≡ putMid (object-at l 0 * 8) ((y - 0) * (object-width l * 8)) b (table (y - 0) (object-width l * 8) (map (bytewise (object l) .enc) xs)) =
       ey ∙ ap₂ (λ (j : ℕ) (v : List ℕ). putMid (object-at l 0 * 8) (j * (object-width l * 8)) b v) (sym z) full in
       record {
-        same = replace-field (sized-object l s) (objects-field l (sized-objects l s) (sized-rows l s)) known 0 y (omega arith) (omega (arith, ap length none)) few xs g (omega arith) (object-at l 0) (object-width l) (size-at l) (omega (arith, table-offsets l s .0)) (sizes l .0) (table-offsets l s .0) ys zs e (subst (Put ys zs (size-at l)) (sym (zero-add y)) ez);
+        same =
+            replace-field (sized-object l s) (objects-field l (sized-objects l s) (sized-rows l s)) known 0 y (omega arith) (omega (arith, ap length none)) few xs g (omega arith)
+            (object-at l 0) (object-width l) (size-at l) (omega (arith, table-offsets l s .0)) (sizes l .0) (table-offsets l s .0) ys zs e (subst (Put ys zs (size-at l)) (sym (zero-add y)) ez);
         fits = fits-objects xs few g;
       }

@@ -4,29 +4,28 @@ use mathlib.Core.List.{List, [], _∷_, _++_, map, map-append, append-nil}
 use Prim.Native.Nat.{ℕ, zero, suc, _+_, _-_, _*_, _≤_, _<_}
 use native.Mathlib.Omega.{arith}
 use native.Mathlib.Nat.{not-suc-le-zero, mul-le-mul-right, sub-zero}
-use lib.ListN.{length, take, drop, getD, set, replicate, length-append, length-drop, length-map, length-set, length-replicate, drop-of-length-le, List·getD-map}
+use lib.ListN.{length, take, drop, getD, set, replicate, length-append, length-map, length-set, length-replicate, drop-of-length-le, List·getD-map}
 use lib.Seq.{length-take-le, take-length, drop-length, drop-drop}
 use borrow.Rule.Slice.PartMut.{midOf, putMid, set-mid-at}
-use Rattle.cells.specs.Cells.{uncells, splice, putCell, Put}
+use Rattle.cells.specs.Cells.{uncells, splice, cell-put, Put}
 use Rattle.cells.specs.Splice.{splice-back}
 use Rattle.cells.specs.Uncells.{uncells-back, uncells-set, uncells-splice, uncells-zeros}
 use Rattle.execution.specs.Run.{start}
 use Rattle.model.specs.declared.Limits.{Limits}
 use Rattle.model.specs.Replica.{Pending, Replica, restarted}
-use Rattle.model.specs.ListLaws.{All, map-set, all-join, all-take, all-drop, all-in, all-set, map-take, map-drop}
+use Rattle.model.specs.ListLaws.{All, map-set, all-join, all-take, all-in, all-set, map-take}
 use Rattle.layout.specs.Rows.{flat, table, blank}
-use Rattle.layout.specs.RowLaws.{split-rows, rest-rows, table-full, take-out}
-use Rattle.layout.specs.Codec.{inBytes}
-use Rattle.layout.specs.Layout.{of-key, Row, row, Record, record-cells, record-area, row-of, body-of, record-of}
+use Rattle.layout.specs.RowLaws.{table-full}
+use Rattle.layout.specs.Codec.{bytewise}
+use Rattle.layout.specs.Layout.{of-key, Row, row, RecordArea, record-cells, record-area, row-of, body-of, tail-of, record-of}
 use Rattle.layout.specs.Offsets.{Sane, pending-at, row-width, row-at}
-use Rattle.layout.specs.Printable.{KeyFits, start-fits, ObjectsFit, RowFits, BodyFits, RecordFits, Printable, record-fits, few-pending}
+use Rattle.layout.specs.Printable.{KeyFits, start-fits, RowFits, BodyFits, RecordFits, Printable, record-fits}
 use Rattle.layout.specs.Field.{put-put}
-use Rattle.layout.specs.Tables.{field-places}
+use Rattle.layout.specs.TableChanges.{field-places}
 use Rattle.layout.specs.RowCells.{row-start}
-use Rattle.layout.specs.Fields.{With, RowThere, sized-row, sized-objects, sized-rows, rows-field, row-field, sizes, table-offsets, row-offset}
-use Rattle.layout.specs.Holds.{Holds, with-pending, holds-long}
-use Rattle.layout.specs.Reading.{rows-part}
-use Rattle.layout.specs.Writing.{write-field, replace-field, rewrite-field}
+use Rattle.layout.specs.Fields.{row-there, sized-row, sized-objects, sized-rows, rows-field, row-field, sizes, table-offsets, row-offset}
+use Rattle.layout.specs.Holds.{Holds, with-pending}
+use Rattle.layout.specs.Writing.{write-field, replace-field}
 
 alone : (r : List ℕ) → flat (r ∷ []) ≡ r
 unfolding flat
@@ -37,15 +36,15 @@ module _ (l : Limits) (s : Sane l) (b : List ℕ) (u : Replica) (h : Holds l b u
   known = record-fits l u (h .fits)
 
   -- the same record, with other rows
-  abbrev with-rows : List Row → Record
-  with-rows rs = (u .timestamp, (u .lasts, (u .readers, (u .objects, rs))))
+  abbrev with-rows : List Row → RecordArea
+  with-rows rs = ((u .timestamp, (u .lasts, (u .readers, (u .objects, rs)))), tail-of u)
 
   -- ---- pending transactions that fit
 
   fits-pending : (js : List Pending) → length js ≤ l .pending → All (RowFits (l .operations)) (map row-of js) → All (BodyFits (l .operations)) (map body-of js) → Printable l (with-pending js u)
   fits-pending js few r b =
       let g = h .fits in
-      record { timestamp = g .timestamp; lasts = g .lasts; readers = g .readers; objects = g .objects; rows = (omega (arith, length-map js row-of), r); bodies = b }
+      record { timestamp = g .timestamp; lasts = g .lasts; readers = g .readers; objects = g .objects; rows = (omega (arith, length-map js row-of), r); tail = g .tail; bodies = b }
 
   module _ {B : Type 0} (f : Pending → B) (P : B → Type 0) (a : All P (map f (u .pending))) where
     all-after : (i : ℕ) (js : List Pending) → All P (map f js) → All P (map f (take i (u .pending) ++ js))
@@ -71,80 +70,42 @@ module _ (l : Limits) (s : Sane l) (b : List ℕ) (u : Replica) (h : Holds l b u
       let n = length-map (u .pending) row-of in
       let few = h .fits .rows .0 in
       let low : i < l .pending = omega arith in
-      let there : With l (ObjectsFit l) (RowThere l i) (record-of u) =
-      (known .0, (known .1 .0, (known .1 .1 .0, (known .1 .1 .1 .0, (few, h .fits .rows .1, omega arith))))) in
+      let there = row-there l u (h .fits) i k in
       record {
         same =
             write-field l s b u h (row-field l s i low (row-of j)) there (row-of j) r ys (row-at l i) (row-width l) (row-offset l s i low (row-of j)) (sizes l .1) e
             ∙ ap (λ (rs : List Row). record-area l .enc (with-rows rs)) (sym (map-set row-of (u .pending) i j));
-        fits = fits-pending (set (u .pending) i j) (omega (arith, length-set (u .pending) i j)) (all-changed row-of (RowFits (l .operations)) (h .fits .rows .1) i j r) (all-changed body-of (BodyFits (l .operations)) (h .fits .bodies) i j g);
+        fits =
+            fits-pending (set (u .pending) i j) (omega (arith, length-set (u .pending) i j))
+            (all-changed row-of (RowFits (l .operations)) (h .fits .rows .1) i j r) (all-changed body-of (BodyFits (l .operations)) (h .fits .bodies) i j g);
       }
 
-  -- ---- the rows from i on: others in their place, as many, or in the places up to q with the new count
+  -- ---- the rows from i on: others in the places up to q, with the new count
 
   module _ (i : ℕ) (k : i ≤ length (u .pending)) (js : List Pending) (r : All (RowFits (l .operations)) (map row-of js)) (g : All (BodyFits (l .operations)) (map body-of js)) where
     fits-after : i + length js ≤ l .pending → Printable l (with-pending (take i (u .pending) ++ js) u)
     fits-after few =
-        fits-pending (take i (u .pending) ++ js) (omega (arith, length-append (take i (u .pending)) js, length-take-le i (u .pending) k)) (all-after row-of (RowFits (l .operations)) (h .fits .rows .1) i js r) (all-after body-of (BodyFits (l .operations)) (h .fits .bodies) i js g)
-
-    pub rewrite-rows : length js ≡ length (u .pending) - i
-        → (ys : List ℕ) → ys ≡ putMid (row-at l i * 8) (length js * (row-width l * 8)) b (flat (map (inBytes (row (l .operations)) .enc) (map row-of js)))
-        → Holds l ys (with-pending (take i (u .pending) ++ js) u)
-    rewrite-rows n ys e =
-        let m = length-map (u .pending) row-of in
-        let q = length-map js row-of in
-        record {
-          same =
-              rewrite-field l s b u h (sized-row l s) (rows-field l (sized-objects l s) (sized-rows l s)) known i (omega arith) (map row-of js) r (omega arith) (row-at l i) (row-width l) (first-at i) (sizes l .1) ys
-              (e ∙ ap (λ (c : ℕ). putMid (row-at l i * 8) (c * (row-width l * 8)) b (flat (map (inBytes (row (l .operations)) .enc) (map row-of js)))) (sym q))
-              ∙ ap (λ (rs : List Row). record-area l .enc (with-rows rs)) (rows-of i js);
-          fits = fits-after (omega (arith, h .fits .rows .0));
-        }
+        fits-pending (take i (u .pending) ++ js) (omega (arith, length-append (take i (u .pending)) js, length-take-le i (u .pending) k))
+        (all-after row-of (RowFits (l .operations)) (h .fits .rows .1) i js r) (all-after body-of (BodyFits (l .operations)) (h .fits .bodies) i js g)
 
     pub replace-rows : (q : ℕ) → length (u .pending) ≤ q → q ≤ l .pending → length js ≤ q - i
-        → (ys zs : List ℕ) → ys ≡ putMid (row-at l i * 8) ((q - i) * (row-width l * 8)) b (table (q - i) (row-width l * 8) (map (inBytes (row (l .operations)) .enc) (map row-of js))) → Put ys zs (pending-at l) (i + length js)
+        → (ys zs : List ℕ) → ys ≡ putMid (row-at l i * 8) ((q - i) * (row-width l * 8)) b (table (q - i) (row-width l * 8) (map (bytewise (row (l .operations)) .enc) (map row-of js))) → Put ys zs (pending-at l) (i + length js)
         → Holds l zs (with-pending (take i (u .pending) ++ js) u)
     replace-rows q few most room ys zs ey ez =
         let m = length-map (u .pending) row-of in
         let n : length (map row-of js) ≡ length js = length-map js row-of in
         record {
           same =
-              replace-field l s b u h (sized-row l s) (rows-field l (sized-objects l s) (sized-rows l s)) known i q (omega arith) (omega arith) most (map row-of js) r (omega arith) (row-at l i) (row-width l) (pending-at l) (first-at i) (sizes l .1) (table-offsets l s .1) ys zs ey
+              replace-field l s b u h (sized-row l s) (rows-field l (sized-objects l s) (sized-rows l s)) known i q (omega arith) (omega arith) most (map row-of js) r (omega arith)
+              (row-at l i) (row-width l) (pending-at l) (first-at i) (sizes l .1) (table-offsets l s .1) ys zs ey
               (subst (λ (c : ℕ). Put ys zs (pending-at l) (i + c)) (sym n) ez)
               ∙ ap (λ (rs : List Row). record-area l .enc (with-rows rs)) (rows-of i js);
           fits = fits-after (omega arith);
         }
 
-  -- ---- row i taken out: the rows behind it move down, zeros come into the place that this frees, and then the count
-
-  pub remove-row : (i : ℕ) → i < length (u .pending)
-      → (ys zs ts : List ℕ) → ys ≡ splice b (row-at l i * 8) (take ((length (u .pending) - (i + 1)) * (row-width l * 8)) (drop (row-at l (i + 1) * 8) b)) → zs ≡ splice ys (row-at l (length (u .pending) - 1) * 8) (replicate (row-width l * 8) 0) → Put zs ts (pending-at l) (length (u .pending) - 1)
-      → Holds l ts (with-pending (take i (u .pending) ++ drop (i + 1) (u .pending)) u)
-  remove-row i k ys zs ts ey ez et =
-      let n = length (u .pending) in
-      let w = row-width l * 8 in
-      let a = row-at l i * 8 in
-      let js = drop (i + 1) (u .pending) in
-      let rs = map (inBytes (row (l .operations)) .enc) (map row-of js) in
-      let c : length js ≡ n - (i + 1) = length-drop (i + 1) (u .pending) in
-      let (t, q) = rest-rows i n w k in
-      let long : a + (n - i) * w ≤ length b =
-      omega (arith, holds-long l s b u h, split-rows n i w (omega arith), mul-le-mul-right (row-width l) low-count) in
-      let e : zs ≡ putMid a ((n - i) * w) b (table (n - i) w rs) =
-      take-out w i n b rs a (row-at l (i + 1) * 8) (row-at l (n - 1) * 8) k (length-map (map row-of js) (inBytes (row (l .operations)) .enc) ∙ length-map js row-of ∙ c) long (omega arith) (omega arith) (rows-part l s b u h (i + 1) (omega arith)) ys zs ey ez in
-      let r : All (RowFits (l .operations)) (map row-of js) =
-      rw (map-drop row-of (i + 1) (u .pending)) (all-drop (RowFits (l .operations)) (i + 1) (map row-of (u .pending)) (h .fits .rows .1)) in
-      let g : All (BodyFits (l .operations)) (map body-of js) =
-      rw (map-drop body-of (i + 1) (u .pending)) (all-drop (BodyFits (l .operations)) (i + 1) (map body-of (u .pending)) (h .fits .bodies)) in
-      let count : n - 1 ≡ i + length js = omega arith in
-      replace-rows i (omega arith) js r g n (omega arith) low-count (omega arith) zs ts e (subst (Put zs ts (pending-at l)) count et)
-    where
-      low-count : length (u .pending) ≤ l .pending
-      low-count = few-pending l u (h .fits)
-
   -- ---- one more row
 
-  pub append-row : length (u .pending) < l .pending → (j : Pending) → RowFits (l .operations) (row-of j) → BodyFits (l .operations) (body-of j)
+  append-row : length (u .pending) < l .pending → (j : Pending) → RowFits (l .operations) (row-of j) → BodyFits (l .operations) (body-of j)
       → (ys zs : List ℕ) → ys ≡ putMid (row-at l (length (u .pending)) * 8) (row-width l * 8) b (uncells (row (l .operations) .enc (row-of j))) → Put ys zs (pending-at l) (length (u .pending) + 1)
       → Holds l zs (with-pending (u .pending ++ (j ∷ [])) u)
   append-row room j r g ys zs ey ez =
@@ -164,13 +125,6 @@ module _ (l : Limits) (s : Sane l) (b : List ℕ) (u : Replica) (h : Holds l b u
 
   abbrev W : List ℕ
   W = record-cells l .enc (record-of u)
-
-  start-cells : (k : ℕ × ℕ) → row (l .operations) .enc (k, start) ≡ of-key k ∷ blank (row-width l - 1)
-  start-cells k =
-      row-start (l .operations) k ∙ ap (λ (n : ℕ). of-key k ∷ blank n) (less (l .operations))
-    where
-      less : (m : ℕ) → 8 + 2 * m ≡ 9 + 2 * m - 1
-      less m = omega arith
 
   in-area : (i : ℕ) → i < l .pending → row-at l i + row-width l ≤ length W
   in-area i k =
@@ -203,11 +157,11 @@ module _ (l : Limits) (s : Sane l) (b : List ℕ) (u : Replica) (h : Holds l b u
       let r : row-of j ≡ (row-of j .0, start) = λ i. (row-of j .0, begun i) in
       let pos : 0 < length (midOf at w W) = omega (arith, ap length (unused room), length-replicate {A = ℕ} w 0) in
       let z : at + 0 ≡ at = omega arith in
-      let new : set (blank w) 0 key ≡ row (l .operations) .enc (row-of j) = first-of w key (omega arith) ∙ sym (ap (row (l .operations) .enc) r ∙ start-cells (row-of j .0)) in
+      let new : set (blank w) 0 key ≡ row (l .operations) .enc (row-of j) = first-of w key (omega arith) ∙ sym (ap (row (l .operations) .enc) r ∙ row-start (l .operations) (row-of j .0)) in
       let e : set W at key ≡ putMid at w W (row (l .operations) .enc (row-of j)) =
       ap (λ (a : ℕ). set W a key) (sym z) ∙ sym (set-mid-at at w 0 W key pos) ∙ ap (λ (x : List ℕ). putMid at w W (set x 0 key)) (unused room) ∙ ap (putMid at w W) new in
       append-row room j (subst (RowFits (l .operations)) (sym r) (start-fits (l .operations) (row-of j .0) k)) g ys zs
-      (ey .whole ∙ ap (λ (x : List ℕ). putCell x at key) (h .same) ∙ uncells-set W at key (omega (arith, in-area n room)) ∙ ap uncells e
+      (ey .whole ∙ ap (λ (x : List ℕ). cell-put x at key) (h .same) ∙ uncells-set W at key (omega (arith, in-area n room)) ∙ ap uncells e
       ∙ sym (uncells-back at w W (row (l .operations) .enc (row-of j))) ∙ ap (λ (x : List ℕ). putMid (at * 8) (w * 8) x (uncells (row (l .operations) .enc (row-of j)))) (sym (h .same)))
       ez
     where
@@ -231,8 +185,7 @@ module _ (l : Limits) (s : Sane l) (b : List ℕ) (u : Replica) (h : Holds l b u
         let few = h .fits .rows .0 in
         let low : i < l .pending = omega arith in
         let room = in-area i low in
-        let there : With l (ObjectsFit l) (RowThere l i) (record-of u) =
-        (known .0, (known .1 .0, (known .1 .1 .0, (known .1 .1 .1 .0, (few, h .fits .rows .1, omega arith))))) in
+        let there = row-there l u (h .fits) i k in
         let fit : RowFits (l .operations) (row-of old) =
         subst (RowFits (l .operations)) (List·getD-map row-of (u .pending) i d) (row-field l s i low (row-of d) .got (record-of u) there) in
         let body : BodyFits (l .operations) (body-of old) =
@@ -242,7 +195,8 @@ module _ (l : Limits) (s : Sane l) (b : List ℕ) (u : Replica) (h : Holds l b u
         let key = row-of old .0 in
         let len : length (blank (w - 1)) ≡ w - 1 = length-replicate (w - 1) 0 in
         let new : putMid 1 (w - 1) (c .enc (row-of old)) (blank (w - 1)) ≡ c .enc (key, start) =
-        ap (λ (x : List ℕ). of-key key ∷ (blank (w - 1) ++ x)) (past (c .enc (row-of old)) (w - 1) (omega (arith, sized-row l s .len (row-of old) fit, sizes l .1))) ∙ ap (of-key key ∷_) (append-nil (blank (w - 1))) ∙ sym (start-cells key) in
+        ap (λ (x : List ℕ). of-key key ∷ (blank (w - 1) ++ x)) (past (c .enc (row-of old)) (w - 1) (omega (arith, sized-row l s .len (row-of old) fit, sizes l .1)))
+        ∙ ap (of-key key ∷_) (append-nil (blank (w - 1))) ∙ sym (row-start (l .operations) key) in
         let q : splice W (at + 1) (blank (w - 1)) ≡ putMid at w W (c .enc (key, start)) =
         sym (splice-back W (blank (w - 1)) (blank (w - 1)) (at + 1) (w - 1) refl (sym len))
         ∙ sym (put-put at w 1 (w - 1) W (blank (w - 1)) (omega arith) room)

@@ -4,7 +4,40 @@ use model::Limits;
 ghost use mathlib.Core.Path.{_≡_};
 ghost use Prim.Native.Nat.{_≤_};
 ghost use Rattle.model.specs.Calls.{clients};
-ghost use Rattle.layout.specs.Offsets.{Sane, last-at, reader-at, size-at, object-width, object-at, pending-at, row-width, row-at, record-length, body-width, body-at, bodies-length, CellAt, ByteAt};
+ghost use Rattle.layout.specs.Layout.{of-key};
+ghost use Rattle.layout.specs.Offsets.{Sane, CellAt, ByteAt, last-at, reader-at, size-at, object-width, object-at, pending-at};
+ghost use Rattle.layout.specs.Offsets.{row-width, row-at, record-length, body-width, body-at, bodies-length};
+
+// Where the parts of a pending transaction's row lie, in cells from its start.
+pub const ROW_KEY: usize = 0;
+// the program counter
+pub const ROW_COUNTER: usize = 1;
+
+pub const ROW_OUTCOME: usize = 2;
+// the first of the registers
+pub const ROW_REGISTERS: usize = 3;
+// the number of reads
+pub const ROW_READS: usize = 7;
+// the number of reads and writes
+pub const ROW_ENTRIES: usize = 8;
+// the first entry: the reads, right behind them the writes
+pub const ROW_FIRST_ENTRY: usize = 9;
+
+// The cells of an entry: an object and a value.
+pub const ENTRY_WIDTH: usize = 2;
+
+// Where the commit timestamp lies.
+pub const TIMESTAMP: usize = 0;
+
+// Sequence numbers are below it.
+pub const SEQUENCES: u64 = 0x1_0000_0000;
+
+// A transaction's key as its row has it.
+pub fn key_cell(client: u32, sequence: u32) -> u64
+    ensures { λ r. ⌜ r ≡ of-key (client, sequence) ⌝ }
+{
+    client as u64 * SEQUENCES + sequence as u64
+}
 
 // Where a client's last number lies; with client the number of clients, where the readers begin.
 pub fn last_at(l: Limits, client: usize) -> usize
@@ -32,12 +65,12 @@ pub fn size_at(l: Limits) -> usize
     reader_at(l, l.readers)
 }
 
-// The cells of an object's block: a count, and a stamp and a value for each version.
+// The cells of an object's block.
 pub fn object_width(l: Limits) -> usize
     requires { ⌜ Sane l ⌝ }
     ensures { λ r. ⌜ r ≡ object-width l ⌝ }
 {
-    3 + 2 * l.readers
+    versions::width(l.readers)
 }
 
 // Where object i begins; with i the number of objects' limit, where the last one ends.
@@ -46,7 +79,7 @@ pub fn object_at(l: Limits, i: usize) -> usize
     requires { ⌜ i ≤ l .objects ⌝ }
     ensures { λ r. ⌜ CellAt l (object-at l i) r ⌝ }
 {
-    18 + l.readers + i * object_width(l)
+    1 + size_at(l) + i * object_width(l)
 }
 
 // Where the number of pending transactions lies.
@@ -62,7 +95,7 @@ pub fn row_width(l: Limits) -> usize
     requires { ⌜ Sane l ⌝ }
     ensures { λ r. ⌜ r ≡ row-width l ⌝ }
 {
-    9 + 2 * l.operations
+    ROW_FIRST_ENTRY + ENTRY_WIDTH * l.operations
 }
 
 // Where row i begins; with i the limit of pending transactions, where the last one ends.
@@ -87,7 +120,7 @@ pub fn body_width(l: Limits) -> usize
     requires { ⌜ Sane l ⌝ }
     ensures { λ r. ⌜ r ≡ body-width l ⌝ }
 {
-    1 + 11 * l.operations
+    operation::body_length(l.operations)
 }
 
 // Where body i begins; with i the limit of pending transactions, where the last one ends.

@@ -1,12 +1,17 @@
 -- All that a closed example of calls unfolds, under one name: `unfolding computing`. Assumes nothing.
-use Rattle.arith.specs.Integer.{fits, roundsUp, quotient}
-use Rattle.operation.specs.Body.{registerCount, longestSkip, mostDivisor, listed, operations, allowed, each, wellFormed}
+use Rattle.arith.specs.Integer.{fits, rounds-up, quotient}
+use Rattle.operation.specs.Body.{register-count, longest-skip, most-divisor, listed, operations, allowed, each, is-well-formed}
 use Rattle.operation.specs.Encode.{written, encode}
 use Rattle.execution.specs.Run.{sum, move, start, obey, step, steps, whole, counted}
-use Rattle.model.specs.Calls.{clients, mostWork, lastTimestamp, numbers, causes, refusal}
+use Rattle.model.specs.Calls.{clients, most-work, last-timestamp, numbers, causes, refusal}
 use Rattle.model.specs.Replica.{held, prune, install, advance, worked, work-count, restarted, walk, validated, result, facts, commit, opened, perform, call, calls}
 use Rattle.model.specs.Limits.{standard, small}
 
+-- bodies and runs
+unfoldable running : Unit {0}
+unfolding fits rounds-up quotient register-count longest-skip most-divisor listed operations allowed each is-well-formed written encode sum move start obey step steps whole counted
+running = tt
+
 unfoldable pub computing : Unit {0}
-unfolding fits roundsUp quotient registerCount longestSkip mostDivisor listed operations allowed each wellFormed written encode sum move start obey step steps whole counted clients mostWork lastTimestamp numbers causes refusal held prune install advance worked work-count restarted walk validated result facts commit opened perform call calls standard small
+unfolding running clients most-work last-timestamp numbers causes refusal held prune install advance worked work-count restarted walk validated result facts commit opened perform call calls standard small
 computing = tt

@@ -3,22 +3,24 @@
 use mathlib.Core.Path.{_≡_, refl, sym, ap, _∙_}
 use mathlib.Core.Bool.{Bool, true, false, not, cond}
 use mathlib.Core.Option.{Option, none, some, Option·getD, Option·map}
-use mathlib.Core.List.{List, [], _∷_, map, map-append, map-map}
+use mathlib.Core.List.{List, [], _∷_, map, map-append, map-map, map-id}
 use Prim.Native.Nat.{ℕ, zero, suc, _<_}
 use native.Mathlib.Omega.{arith}
 use lib.IntN.{ℤ}
 use lib.ListN.{length, getD, set, length-map, List·getD-map}
 use Rattle.operation.specs.Body.{listed, operations}
-use Rattle.operation.specs.Laws.{valid-drop}
+use Rattle.operation.specs.BodyLaws.{valid-drop}
 use Rattle.execution.specs.Run.{Run, start, steps}
 use Rattle.model.specs.declared.Limits.{Limits}
-use Rattle.model.specs.Lists.{pick, keep, count}
-use Rattle.model.specs.Calls.{Call, opening, optimistic, execute, final, open-reader, read, close-reader, find, show-body, Answer, committed, value, seen, Transaction, is-key, leaves, bytes-of, refusal, judged}
+use Rattle.model.specs.Lists.{pick, keep}
+use Rattle.model.specs.Interface.{optimistic, execute, final, open-reader, close-reader, Query, read, find, show-body, Call, opening, update, query, value, Yield, observed, Answer, yielded}
+use Rattle.model.specs.Calls.{compared, seen, Transaction, is-key, leaves, bytes-of, refusal, judged}
+use Rattle.model.specs.Start.{Start, start-of}
 use Rattle.model.specs.Serial as serial
-use Rattle.model.specs.Serial.{Version, no-version, Serial, is-some, stored-at, ran}
-use Rattle.model.specs.Replica.{Pending, Replica, newest, as-of, view, opens, prune, table, install, walk, program, pending-of, has-key, stays, result, facts, commit, opened, perform, call}
+use Rattle.model.specs.Serial.{Version, no-version, Serial, is-some, ran}
+use Rattle.model.specs.Replica.{Pending, Replica, newest, as-of, view, opens, prune, table, committed-table, install, walk, program, pending-of, has-key, keyed, stays, result, facts, commit, opened, reply, perform, call}
 use Rattle.model.specs.ListLaws.{All, all-at, all-implies, all-map, map-keep, index-map, map-replicate, map-set, map-all, map-map-same}
-use Rattle.model.specs.Versions.{Until, newest-prune, as-of-prune, as-of-now, newest-install, as-of-install, table-values, views}
+use Rattle.model.specs.VersionLaws.{Until, newest-prune, as-of-prune, as-of-now, newest-install, as-of-install, table-values, views}
 use Rattle.model.specs.EarlyResults.{Somewhere, chain-somewhere, sents, worked-sents, walk-sents, result-whole}
 use Rattle.model.specs.Simulation.{AllValid, none-valid, SameRun, serial-run}
 use Rattle.model.specs.Invariant.{Invariant, WellFormed}
@@ -52,7 +54,11 @@ unfolding start
 picked-bytes q [] = refl
 picked-bytes q (j ∷ l) = go′ (q (j .sent)) (picked-bytes q l)
   where
-    go′ : (b : Bool) → bytes-of (pick q (sents l)) ≡ pending-of (pick (λ (j : Pending). q (j .sent)) l) .sent .bytes → bytes-of (cond b (some (j .sent)) (pick q (sents l))) ≡ pending-of (cond b (some j) (pick (λ (j : Pending). q (j .sent)) l)) .sent .bytes
+    p : Pending → Bool
+    p j = q (j .sent)
+
+    go′ : (b : Bool) → bytes-of (pick q (sents l)) ≡ pending-of (pick p l) .sent .bytes
+        → bytes-of (cond b (some (j .sent)) (pick q (sents l))) ≡ pending-of (cond b (some j) (pick p l)) .sent .bytes
     go′ true h = refl
     go′ false h = h
 
@@ -65,31 +71,34 @@ picked-all P q (j ∷ l) d h = go′ (q j) (picked-all P q l d (h .1))
     go′ false k = k
 
 module _ (l : Limits) where
-  pub opened-same : (vs : List ℤ) (t : ℕ) → serial-of (opened l vs t) ≡ serial.opened l vs t
+  pub opened-same : (s : Start) → serial-of (opened l s) ≡ serial.opened l s
   unfolding serial-of opened serial.opened
-  opened-same vs t =
-      serial-≡ _ _ refl (map-map newest (λ v. record { stamp = t; value = v } ∷ []) vs) refl refl (map-replicate _ (l .readers) none)
+  opened-same s =
+      serial-≡ _ _ refl (map-map newest (λ v. v ∷ []) (s .versions) ∙ map-id (s .versions)) refl refl (map-replicate _ (l .readers) none)
 
   -- what one call answers, and the state after it
   abbrev Agrees : Answer × Replica → Answer × Serial → Type 0
   Agrees r q = (seen (r .0) ≡ q .0) × (serial-of (r .1) ≡ q .1)
 
+  -- the same of a call that is accepted
+  abbrev Performs : Yield × Replica → Yield × Serial → Type 0
+  Performs r q = (compared (r .0) ≡ q .0) × (serial-of (r .1) ≡ q .1)
+
   module _ (u : Replica) (v : Invariant l u) where
     -- ---- a final delivery
 
-    -- the transaction that is delivered
-    abbrev delivered : ℕ → ℕ → Pending
-    delivered c s = pending-of (pick (has-key c s) (u .pending))
-
-    delivered-somewhere : (c s : ℕ) → Somewhere (delivered c s)
+    keyed-somewhere : (c s : ℕ) → Somewhere (keyed u c s)
     unfolding steps
-    delivered-somewhere c s =
-        picked-all Somewhere (has-key c s) (u .pending) (table (u .objects), (0, refl)) (chain-somewhere (table (u .objects)) (u .pending) (v .early))
+    keyed-somewhere c s =
+        picked-all Somewhere (has-key c s) (u .pending) (committed-table u, (0, refl)) (chain-somewhere (committed-table u) (u .pending) (v .early))
 
-    delivered-valid : (c s : ℕ) → AllValid (length (u .objects)) (program (delivered c s))
+    keyed-valid : (c s : ℕ) → AllValid (length (u .objects)) (program (keyed u c s))
     unfolding operations listed
-    delivered-valid c s =
-        picked-all (λ (j : Pending). AllValid (length (u .objects)) (program j)) (has-key c s) (u .pending) (none-valid (length (u .objects))) (all-implies _ _ (λ (j : Pending) h. valid-drop (l .operations) (length (u .objects)) (j .sent .bytes) h) (u .pending) (all-map (WellFormed l (length (u .objects))) (λ (j : Pending). j .sent) (u .pending) (v .bodies)))
+    keyed-valid c s =
+        let n = length (u .objects) in
+        let bodies = all-map (WellFormed l n) (λ (j : Pending). j .sent) (u .pending) (v .bodies) in
+        picked-all (λ (j : Pending). AllValid n (program j)) (has-key c s) (u .pending) (none-valid n)
+        (all-implies _ _ (λ (j : Pending) h. valid-drop (l .operations) n (j .sent .bytes) h) (u .pending) bodies)
 
     before : (i : ℕ) → getD (map newest (u .objects)) i no-version .stamp < suc (u .timestamp)
     before i =
@@ -97,12 +106,12 @@ module _ (l : Limits) where
         (let h = all-at (Until (u .timestamp)) (u .objects) [] (v .versions) (omega arith) i in omega arith)
 
     -- validated or run again, its result is what the serial table's run gives
-    result-same : (c s : ℕ) → SameRun (suc (u .timestamp)) (map newest (u .objects)) (result (table (u .objects)) (delivered c s)) (ran (suc (u .timestamp)) (delivered c s .sent .bytes) (map newest (u .objects)))
+    result-same : (c s : ℕ) → SameRun (suc (u .timestamp)) (map newest (u .objects)) (result (committed-table u) (keyed u c s)) (ran (suc (u .timestamp)) (keyed u c s .sent .bytes) (map newest (u .objects)))
     result-same c s =
-        rw (result-whole (table (u .objects)) (delivered c s) (delivered-somewhere c s), ← (table-values (u .objects)))
-        (serial-run (suc (u .timestamp)) (map newest (u .objects)) before (delivered c s .sent .bytes) (rw (length-map (u .objects) newest) (delivered-valid c s)))
+        rw (result-whole (committed-table u) (keyed u c s) (keyed-somewhere c s), ← (table-values (u .objects)))
+        (serial-run (suc (u .timestamp)) (map newest (u .objects)) before (keyed u c s .sent .bytes) (rw (length-map (u .objects) newest) (keyed-valid c s)))
 
-    final-same : (c s : ℕ) → Agrees (perform l u (final c s)) (serial.perform l (serial-of u) (final c s))
+    final-same : (c s : ℕ) → Performs (perform l u (update (final c s))) (serial.perform l (serial-of u) (update (final c s)))
     unfolding perform commit serial-of serial.perform serial.commit
     final-same c s = rw (picked-bytes (is-key c s) (u .pending)) (answer, serial-≡ _ _ refl objects refl pending readers)
       where
@@ -113,10 +122,10 @@ module _ (l : Limits) where
         rs = opens (u .readers)
 
         p : Run
-        p = result (table (u .objects)) (delivered c s)
+        p = result (committed-table u) (keyed u c s)
 
         r : ℕ × List Version
-        r = ran t (delivered c s .sent .bytes) (map newest (u .objects))
+        r = ran t (keyed u c s .sent .bytes) (map newest (u .objects))
 
         g : SameRun t (map newest (u .objects)) p r
         g = result-same c s
@@ -127,7 +136,7 @@ module _ (l : Limits) where
         left : List Pending
         left = keep (stays c s) (u .pending)
 
-        answer : committed (p .outcome) false t (length (p .writes)) ≡ committed (r .0) false t (count (stored-at t) (r .1))
+        answer : compared (perform l u (update (final c s)) .0) ≡ serial.commit (serial-of u) c s r .0
         answer = rw (g .stored, g .outcome)
 
         objects : map newest objs ≡ r .1
@@ -147,38 +156,43 @@ module _ (l : Limits) where
         map-set (Option·map (λ r. map (as-of r) (u .objects))) (u .readers) r (some (u .timestamp))
         ∙ rw (map-all (as-of (u .timestamp)) newest (u .objects) (all-implies _ _ (as-of-now (u .timestamp)) (u .objects) (v .versions)))
 
-    read-same : (r o : ℕ) → Agrees (perform l u (read r o)) (serial.perform l (serial-of u) (read r o))
-    unfolding perform serial-of serial.perform
-    read-same r o =
-        (ap value (rw (List·getD-map (Option·map (λ r. map (as-of r) (u .objects))) (u .readers) r none) (go′ (getD (u .readers) r none))), refl)
-      where
-        go′ : (k : Option ℕ) → view k (getD (u .objects) o []) .value ≡ getD (Option·getD (Option·map (λ r. map (as-of r) (u .objects)) k) []) o no-version .value
-        go′ none = refl
-        go′ (some r) = ap (λ (x : Version). x .value) (sym (List·getD-map (as-of r) (u .objects) o []))
-
     close-reader-same : (r : ℕ) → let rs = set (u .readers) r none in copies (map (prune (opens rs)) (u .objects)) rs ≡ set (copies (u .objects) (u .readers)) r none
     close-reader-same r =
         let rs = set (u .readers) r none in
         views (λ r. map (as-of r) (map (prune (opens rs)) (u .objects))) (λ r. map (as-of r) (u .objects)) rs (λ r h. map-map-same (as-of r) (prune (opens rs)) (u .objects) (λ vs. as-of-prune (opens rs) vs r h))
         ∙ map-set (Option·map (λ r. map (as-of r) (u .objects))) (u .readers) r none
 
+    -- ---- queries
+
+    read-same : (r o : ℕ) → view (getD (u .readers) r none) (getD (u .objects) o []) .value ≡ getD (Option·getD (getD (copies (u .objects) (u .readers)) r none) []) o no-version .value
+    read-same r o =
+        rw (List·getD-map (Option·map (λ r. map (as-of r) (u .objects))) (u .readers) r none) (go′ (getD (u .readers) r none))
+      where
+        go′ : (k : Option ℕ) → view k (getD (u .objects) o []) .value ≡ getD (Option·getD (Option·map (λ r. map (as-of r) (u .objects)) k) []) o no-version .value
+        go′ none = refl
+        go′ (some r) = ap (λ (x : Version). x .value) (sym (List·getD-map (as-of r) (u .objects) o []))
+
+    reply-same : (q : Query) → reply l u q ≡ serial.reply l (serial-of u) q
+    unfolding serial-of
+    reply-same (read r o) = ap (λ (v : ℤ). value (record { value = v })) (read-same r o)
+    reply-same (find c s) =
+        rw (index-map (λ (j : Pending). j .sent) (is-key c s) (u .pending), picked-bytes (is-key c s) (u .pending))
+    reply-same (show-body c s) = rw (facts-same u, picked-bytes (is-key c s) (u .pending))
+
     -- ---- every call
 
-    perform-same : (c : Call) → Agrees (perform l u c) (serial.perform l (serial-of u) c)
+    perform-same : (c : Call) → Performs (perform l u c) (serial.perform l (serial-of u) c)
     unfolding perform serial-of serial.perform
-    perform-same (opening n vs t) = (refl, opened-same vs t)
-    perform-same (optimistic c s b) =
+    perform-same (opening o) = (refl, opened-same (start-of o))
+    perform-same (update (optimistic c s b)) =
         (refl, serial-≡ _ _ refl refl refl (map-append (λ (j : Pending). j .sent) (u .pending) _) refl)
-    perform-same (execute k) = (refl, serial-≡ _ _ refl refl refl (worked-sents (table (u .objects)) k (u .pending)) refl)
-    perform-same (final c s) = final-same c s
-    perform-same (open-reader r) = (refl, serial-≡ _ _ refl refl refl refl (open-reader-same r))
-    perform-same (read r o) = read-same r o
-    perform-same (close-reader r) =
+    perform-same (update (execute k)) = (refl, serial-≡ _ _ refl refl refl (worked-sents (committed-table u) k (u .pending)) refl)
+    perform-same (update (final c s)) = final-same c s
+    perform-same (update (open-reader r)) = (refl, serial-≡ _ _ refl refl refl refl (open-reader-same r))
+    perform-same (update (close-reader r)) =
         let rs = opens (set (u .readers) r none) in
         (refl, serial-≡ _ _ refl (map-map-same newest (prune rs) (u .objects) (newest-prune rs)) refl refl (close-reader-same r))
-    perform-same (find c s) =
-        (rw (index-map (λ (j : Pending). j .sent) (is-key c s) (u .pending), picked-bytes (is-key c s) (u .pending)), refl)
-    perform-same (show-body c s) = (rw (facts-same u, picked-bytes (is-key c s) (u .pending)), refl)
+    perform-same (query q) = (ap observed (reply-same q), refl)
 
     -- one call
     pub call-same : (c : Call) → Agrees (call l u c) (serial.call l (serial-of u) c)
@@ -186,5 +200,5 @@ module _ (l : Limits) where
     call-same c = rw (facts-same u) (go′ (refusal l (facts u) c))
       where
         go′ : (k : ℕ) → Agrees (judged u (perform l u c) k) (judged (serial-of u) (serial.perform l (serial-of u) c) k)
-        go′ zero = perform-same c
+        go′ zero = let h = perform-same c in (ap yielded (h .0), h .1)
         go′ (suc k) = (refl, refl)

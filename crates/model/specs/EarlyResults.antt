@@ -6,7 +6,7 @@ use mathlib.Core.Bool.{Bool, true, false, cond, _&&_, true≢false}
 use mathlib.Core.List.{List, [], _∷_, _++_, map}
 use Prim.Native.Nat.{ℕ, zero, suc, _-_}
 use Rattle.execution.specs.Run.{Table, start, step, steps, whole, matches, over}
-use Rattle.execution.specs.Agreement.{both, steps-agree, stay, ended-whole}
+use Rattle.execution.specs.ReadAgreement.{both, steps-agree, stay, ended-whole}
 use Rattle.model.specs.Lists.{keep}
 use Rattle.model.specs.Calls.{Transaction}
 use Rattle.model.specs.Replica.{Pending, program, finished, advance, used, worked, restarted, walk, validated, result}

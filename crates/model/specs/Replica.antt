@@ -13,8 +13,10 @@ use Rattle.execution.specs.Entries.{Entry, lookup}
 use Rattle.execution.specs.Run.{Table, Run, start, ended, steps, whole, counted, matches, over}
 use Rattle.model.specs.declared.Limits.{Limits}
 use Rattle.model.specs.Lists.{pick, keep, any, count, index, mapi}
-use Rattle.model.specs.Calls.{Call, opening, optimistic, execute, final, open-reader, read, close-reader, find, show-body, Answer, done, executed, committed, value, found, body, Transaction, is-key, leaves, Facts, refusal, shown, judged, clients}
-use Rattle.model.specs.Serial.{Version, no-version, is-some}
+use Rattle.model.specs.Interface.{optimistic, execute, final, open-reader, close-reader, Query, read, find, show-body, Call, opening, update, query, Observation, value, found, body, Yield, done, executed, committed, observed, Answer}
+use Rattle.model.specs.Calls.{Transaction, is-key, leaves, Facts, refusal, shown, judged}
+use Rattle.model.specs.Start.{Version, no-version, Start, start-of}
+use Rattle.model.specs.Serial.{is-some}
 
 -- a pending transaction with its run on record ("early results")
 pub record Pending : Type 0 where
@@ -27,6 +29,28 @@ pub record Replica : Type 0 where
   pub lasts : List ℕ  -- each client's last committed sequence number
   pub pending : List Pending  -- in optimistic order
   pub readers : List (Option ℕ)  -- an open reader's timestamp
+
+-- ---- one field changed
+
+abbrev pub with-timestamp : ℕ → Replica → Replica
+with-timestamp x u =
+    record { timestamp = x; objects = u .objects; lasts = u .lasts; pending = u .pending; readers = u .readers }
+
+abbrev pub with-objects : List (List Version) → Replica → Replica
+with-objects x u =
+    record { timestamp = u .timestamp; objects = x; lasts = u .lasts; pending = u .pending; readers = u .readers }
+
+abbrev pub with-lasts : List ℕ → Replica → Replica
+with-lasts x u =
+    record { timestamp = u .timestamp; objects = u .objects; lasts = x; pending = u .pending; readers = u .readers }
+
+abbrev pub with-pending : List Pending → Replica → Replica
+with-pending x u =
+    record { timestamp = u .timestamp; objects = u .objects; lasts = u .lasts; pending = x; readers = u .readers }
+
+abbrev pub with-readers : List (Option ℕ) → Replica → Replica
+with-readers x u =
+    record { timestamp = u .timestamp; objects = u .objects; lasts = u .lasts; pending = u .pending; readers = x }
 
 -- ---- versions
 
@@ -55,9 +79,13 @@ held rs vs v = eqb (v .stamp) (newest vs .stamp) || any (λ r. eqb (v .stamp) (a
 unfoldable pub prune : List ℕ → List Version → List Version
 prune rs vs = keep (held rs vs) vs
 
--- the committed state ("committed table")
+-- the newest values
 abbrev pub table : List (List Version) → Table
 table objs = record { look = λ o. newest (getD objs o []) .value }
+
+-- the committed state ("committed table"): what the first pending transaction runs on
+abbrev pub committed-table : Replica → Table
+committed-table u = table (u .objects)
 
 -- one object's versions after a commit that stored this value, or none
 abbrev pub pushed : ℕ → List Version → Option ℤ → List Version
@@ -113,6 +141,10 @@ pending-of (some j) = j
 abbrev pub has-key : ℕ → ℕ → Pending → Bool
 has-key c s j = is-key c s (j .sent)
 
+-- the pending transaction with this key
+abbrev pub keyed : Replica → ℕ → ℕ → Pending
+keyed u c s = pending-of (pick (has-key c s) (u .pending))
+
 abbrev pub stays : ℕ → ℕ → Pending → Bool
 stays c s j = not (leaves c s (j .sent))
 
@@ -130,40 +162,42 @@ unfoldable pub facts : Replica → Facts
 facts u =
     record { size = length (u .objects); timestamp = u .timestamp; lasts = u .lasts; queue = map (λ (j : Pending). j .sent) (u .pending); opened = map is-some (u .readers) }
 
--- a final delivery of a key with this run as its result
-unfoldable pub commit : Replica → ℕ → ℕ → Bool → Run → Answer × Replica
-commit u c s kept p =
+-- a final delivery of a key with this run as its result, validated or not
+unfoldable pub commit : Replica → ℕ → ℕ → Bool → Run → Yield × Replica
+commit u c s valid p =
     let t : ℕ = suc (u .timestamp) in
-    let objs : List (List Version) = install t (opens (u .readers)) (p .writes) (u .objects) in (
-      committed (p .outcome) kept t (length (p .writes)),
-      record { timestamp = t; objects = objs; lasts = set (u .lasts) c s; pending = walk (table objs) (keep (stays c s) (u .pending)); readers = u .readers },
+    let v : Replica = with-lasts (set (u .lasts) c s) (with-timestamp t (with-objects (install t (opens (u .readers)) (p .writes) (u .objects)) u)) in (
+      committed (record { outcome = p .outcome; validated = valid; timestamp = t; stored = length (p .writes) }),
+      with-pending (walk (committed-table v) (keep (stays c s) (u .pending))) v,
     )
 
 module _ (l : Limits) where
-  unfoldable pub opened : List ℤ → ℕ → Replica
-  opened vs t =
-      record { timestamp = t; objects = map (λ v. record { stamp = t; value = v } ∷ []) vs; lasts = replicate clients 0; pending = []; readers = replicate (l .readers) none }
+  -- an accepted opening: nothing pending, readers closed
+  unfoldable pub opened : Start → Replica
+  opened s =
+      record { timestamp = s .timestamp; objects = map (λ v. v ∷ []) (s .versions); lasts = s .lasts; pending = []; readers = replicate (l .readers) none }
 
-  unfoldable pub perform : Replica → Call → Answer × Replica
-  perform u (opening n vs t) = (done, opened vs t)
-  perform u (optimistic c s b) =
-      (done, record { timestamp = u .timestamp; objects = u .objects; lasts = u .lasts; pending = u .pending ++ (record { sent = record { client = c; sequence = s; bytes = b }; run = start } ∷ []); readers = u .readers })
-  perform u (execute k) =
-      let js : List Pending = worked (table (u .objects)) k (u .pending) in
-      (executed (work-count (table (u .objects)) k (u .pending)) (count finished js), record { timestamp = u .timestamp; objects = u .objects; lasts = u .lasts; pending = js; readers = u .readers })
-  perform u (final c s) =
-      let j : Pending = pending-of (pick (has-key c s) (u .pending)) in
-      commit u c s (validated (table (u .objects)) j) (result (table (u .objects)) j)
-  perform u (open-reader r) =
-      (done, record { timestamp = u .timestamp; objects = u .objects; lasts = u .lasts; pending = u .pending; readers = set (u .readers) r (some (u .timestamp)) })
-  perform u (read r o) = (value (view (getD (u .readers) r none) (getD (u .objects) o []) .value), u)
-  perform u (close-reader r) =
+  -- what a query yields
+  abbrev pub reply : Replica → Query → Observation
+  reply u (read r o) = value (record { value = view (getD (u .readers) r none) (getD (u .objects) o []) .value })
+  reply u (find c s) = found (index (has-key c s) (u .pending)) (length (keyed u c s .sent .bytes))
+  reply u (show-body c s) = body (shown (keyed u c s .sent .bytes) (refusal l (facts u) (query (find c s))))
+
+  -- an accepted call: what it yields, and the replica after it
+  unfoldable pub perform : Replica → Call → Yield × Replica
+  perform u (opening o) = (done, opened (start-of o))
+  perform u (update (optimistic c s b)) =
+      (done, with-pending (u .pending ++ (record { sent = record { client = c; sequence = s; bytes = b }; run = start } ∷ [])) u)
+  perform u (update (execute k)) =
+      let js : List Pending = worked (committed-table u) k (u .pending) in
+      (executed (work-count (committed-table u) k (u .pending)) (count finished js), with-pending js u)
+  perform u (update (final c s)) =
+      commit u c s (validated (committed-table u) (keyed u c s)) (result (committed-table u) (keyed u c s))
+  perform u (update (open-reader r)) = (done, with-readers (set (u .readers) r (some (u .timestamp))) u)
+  perform u (update (close-reader r)) =
       let rs : List (Option ℕ) = set (u .readers) r none in
-      (done, record { timestamp = u .timestamp; objects = map (prune (opens rs)) (u .objects); lasts = u .lasts; pending = u .pending; readers = rs })
-  perform u (find c s) =
-      (found (index (has-key c s) (u .pending)) (length (pending-of (pick (has-key c s) (u .pending)) .sent .bytes)), u)
-  perform u (show-body c s) =
-      (body (shown (pending-of (pick (has-key c s) (u .pending)) .sent .bytes) (refusal l (facts u) (find c s))), u)
+      (done, with-readers rs (with-objects (map (prune (opens rs)) (u .objects)) u))
+  perform u (query q) = (observed (reply u q), u)
 
   unfoldable pub call : Replica → Call → Answer × Replica
   call u c = judged u (perform u c) (refusal l (facts u) c)

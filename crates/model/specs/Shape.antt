@@ -8,14 +8,14 @@ use Prim.Native.Nat.{ℕ, suc, _+_, _^_, _≤_, _<_}
 use lib.IntN.{pos}
 use lib.Dec.{eqb, leb, ltb}
 use lib.ListN.{length}
-use Rattle.arith.specs.Integer.{fits, eqZ}
-use Rattle.operation.specs.Body.{registerCount, size, wellFormed}
+use Rattle.arith.specs.Integer.{fits, eq-z}
+use Rattle.operation.specs.Body.{register-count, size, is-well-formed}
 use Rattle.execution.specs.Entries.{Entry}
 use Rattle.execution.specs.Run.{Run}
-use Rattle.execution.specs.Shape.{distinct, every, all-fit}
+use Rattle.execution.specs.RunShape.{distinct, every, all-fit}
 use Rattle.model.specs.declared.Limits.{Limits}
 use Rattle.model.specs.Lists.{any, all}
-use Rattle.model.specs.Calls.{Transaction, is-key, spent, clients, lastTimestamp}
+use Rattle.model.specs.Calls.{Transaction, is-key, spent, clients, last-timestamp}
 use Rattle.model.specs.Serial.{Version}
 use Rattle.model.specs.Replica.{Pending, Replica, opens, held}
 use Rattle.model.specs.ListLaws.{All}
@@ -68,7 +68,7 @@ pub record AtStart (p : Run) : Type 0 where
   pub outcome : p .outcome ≡ 0
   pub reads : p .reads ≡ []
   pub writes : p .writes ≡ []
-  pub registers : all (eqZ (pos 0)) (p .registers) ≡ true
+  pub registers : all (eq-z (pos 0)) (p .registers) ≡ true
 
 -- "name different objects below n"
 pub record Names (n : ℕ) (l : List Entry) : Type 0 where
@@ -94,13 +94,13 @@ InOrder (j ∷ js) =
 -- ---- what the areas' encoding adds: numbers of 32 bits, values of 64 bits, lists of fixed length
 
 pub record RunEncoded (p : Run) : Type 0 where
-  pub count : length (p .registers) ≡ registerCount
+  pub count : length (p .registers) ≡ register-count
   pub registers : all-fit (p .registers) ≡ true
   pub reads : every (λ x. fits (x .value)) (p .reads) ≡ true
   pub writes : every (λ x. fits (x .value)) (p .writes) ≡ true
 
 pub record Encoded (l : Limits) (u : Replica) : Type 0 where
-  pub timestamp : u .timestamp ≤ lastTimestamp
+  pub timestamp : u .timestamp ≤ last-timestamp
   pub lasts : all (λ s. ltb s (2 ^ 32)) (u .lasts) ≡ true
   pub sequences : All (λ (s : Transaction). s .sequence < 2 ^ 32) (sents (u .pending))
   pub last-count : length (u .lasts) ≡ clients
@@ -124,7 +124,7 @@ pub record Shape (l : Limits) (u : Replica) : Type 0 where
   pub distinct : distinct-keys (sents (u .pending)) ≡ true
   pub unspent : All (Unspent (u .lasts)) (sents (u .pending))
   -- "bodies well formed"
-  pub bodies : All (λ (s : Transaction). wellFormed (l .operations) (length (u .objects)) (s .bytes) ≡ true) (sents (u .pending))
+  pub bodies : All (λ (s : Transaction). is-well-formed (l .operations) (length (u .objects)) (s .bytes) ≡ true) (sents (u .pending))
   pub order : InOrder (u .pending)
   pub sets : All (λ (j : Pending). Sets (length (u .objects)) (j .run)) (u .pending)
   pub encoded : Encoded l u

@@ -8,16 +8,16 @@ use native.Mathlib.Omega.{arith}
 use lib.IntN.{pos}
 use lib.Dec.{eqb, leb, ltb}
 use lib.ListN.{length}
-use Rattle.arith.specs.Integer.{fits, eqZ}
-use Rattle.operation.specs.Body.{registerCount, size, wellFormed}
-use Rattle.operation.specs.Laws.{formed}
+use Rattle.arith.specs.Integer.{fits, eq-z}
+use Rattle.operation.specs.Body.{register-count, size, is-well-formed}
+use Rattle.operation.specs.BodyLaws.{formed}
 use Rattle.execution.specs.Entries.{Entry}
 use Rattle.execution.specs.Run.{Run}
-use Rattle.execution.specs.Agreement.{both}
-use Rattle.execution.specs.Shape.{distinct, every, all-fit}
+use Rattle.execution.specs.ReadAgreement.{both}
+use Rattle.execution.specs.RunShape.{distinct, every, all-fit}
 use Rattle.model.specs.declared.Limits.{Limits}
 use Rattle.model.specs.Lists.{any, all}
-use Rattle.model.specs.Calls.{Transaction, spent, clients, lastTimestamp}
+use Rattle.model.specs.Calls.{Transaction, spent, clients, last-timestamp}
 use Rattle.model.specs.Serial.{Version}
 use Rattle.model.specs.Replica.{Pending, Replica, opens, held, finished}
 use Rattle.model.specs.ListLaws.{All, all-map, all-implies}
@@ -37,7 +37,7 @@ key-unspent lasts s = ltb (s .client) clients && not (spent lasts (s .client) (s
 
 unfoldable pub at-start : Run → Bool
 at-start p =
-    eqb (p .counter) 0 && eqb (p .outcome) 0 && eqb (length (p .reads)) 0 && eqb (length (p .writes)) 0 && all (eqZ (pos 0)) (p .registers)
+    eqb (p .counter) 0 && eqb (p .outcome) 0 && eqb (length (p .reads)) 0 && eqb (length (p .writes)) 0 && all (eq-z (pos 0)) (p .registers)
 
 unfoldable pub names-shaped : ℕ → List Entry → Bool
 names-shaped n l = distinct l && every (λ x. ltb (x .object) n) l
@@ -45,7 +45,13 @@ names-shaped n l = distinct l && every (λ x. ltb (x .object) n) l
 -- one run, wherever it stands in its body of m operations
 unfoldable pub run-shaped : ℕ → ℕ → Run → Bool
 run-shaped n m p =
-    (ltb 0 (p .counter) || at-start p) && leb (p .counter) m && leb (p .outcome) 2 && (eqb (p .outcome) 0 || eqb (length (p .writes)) 0) && leb (length (p .reads) + length (p .writes)) (p .counter) && names-shaped n (p .reads) && names-shaped n (p .writes)
+    (ltb 0 (p .counter) || at-start p)
+    && leb (p .counter) m
+    && leb (p .outcome) 2
+    && (eqb (p .outcome) 0 || eqb (length (p .writes)) 0)
+    && leb (length (p .reads) + length (p .writes)) (p .counter)
+    && names-shaped n (p .reads)
+    && names-shaped n (p .writes)
 
 -- Along the pending transactions: the flag says that all before are finished. After the first that is not, none is begun.
 unfoldable pub in-order : Bool → List Pending → Bool
@@ -65,18 +71,18 @@ checked l u =
     && all (λ r. leb r (u .timestamp)) (opens (u .readers))
     && distinct-keys (sents (u .pending))
     && all (key-unspent (u .lasts)) (sents (u .pending))
-    && all (λ (s : Transaction). wellFormed (l .operations) n (s .bytes)) (sents (u .pending))
+    && all (λ (s : Transaction). is-well-formed (l .operations) n (s .bytes)) (sents (u .pending))
     && in-order true (u .pending)
     && all (λ (j : Pending). run-shaped n (size-of j) (j .run)) (u .pending)
 
 unfoldable pub run-encoded : Run → Bool
 run-encoded p =
-    eqb (length (p .registers)) registerCount && all-fit (p .registers) && every (λ x. fits (x .value)) (p .reads) && every (λ x. fits (x .value)) (p .writes)
+    eqb (length (p .registers)) register-count && all-fit (p .registers) && every (λ x. fits (x .value)) (p .reads) && every (λ x. fits (x .value)) (p .writes)
 
 -- what the areas' encoding adds
 unfoldable pub encoded : Limits → Replica → Bool
 encoded l u =
-    leb (u .timestamp) lastTimestamp
+    leb (u .timestamp) last-timestamp
     && all (λ s. ltb s (2 ^ 32)) (u .lasts)
     && all (λ (s : Transaction). ltb (s .sequence) (2 ^ 32)) (sents (u .pending))
     && eqb (length (u .lasts)) clients
@@ -92,7 +98,8 @@ shaped l u = checked l u && encoded l u
 pub versions-say : (t : ℕ) (rs : List ℕ) (vs : List Version) → Says (versions-shaped t rs vs) (VersionsShape t rs vs)
 unfolding versions-shaped
 versions-say t rs vs =
-    let s = says-self (falling vs) and (says-self (all (λ v. leb (v .stamp) t) vs) and (says-self (all (held rs vs) vs) and (some vs and says-each (λ r. any (λ v. leb (v .stamp) r) vs) (λ r. any (λ v. leb (v .stamp) r) vs ≡ true) (λ r. says-self (any (λ v. leb (v .stamp) r) vs)) rs))) in (
+    let served = says-each (λ r. any (λ v. leb (v .stamp) r) vs) (λ r. any (λ v. leb (v .stamp) r) vs ≡ true) (λ r. says-self (any (λ v. leb (v .stamp) r) vs)) rs in
+    let s = says-self (falling vs) and (says-self (all (λ v. leb (v .stamp) t) vs) and (says-self (all (held rs vs) vs) and (some vs and served))) in (
       λ e. (let (f, (b, (h, (k, r)))) = s .0 e in record { least = k; order = f; bound = b; each = h; served = r }),
       λ v. s .1 (v .order, (v .bound, (v .each, (v .least, v .served)))),
     )
@@ -110,7 +117,7 @@ key-says lasts s =
 pub at-start-says : (p : Run) → Says (at-start p) (AtStart p)
 unfolding at-start
 at-start-says p =
-    let s = says-eq (p .counter) 0 and says-eq (p .outcome) 0 and says-empty (p .reads) and says-empty (p .writes) and says-self (all (eqZ (pos 0)) (p .registers)) in (
+    let s = says-eq (p .counter) 0 and says-eq (p .outcome) 0 and says-empty (p .reads) and says-empty (p .writes) and says-self (all (eq-z (pos 0)) (p .registers)) in (
       λ e. (let ((((c, o), r), w), g) = s .0 e in record { counter = c; outcome = o; reads = r; writes = w; registers = g }),
       λ v. s .1 ((((v .counter, v .outcome), v .reads), v .writes), v .registers),
     )
@@ -124,7 +131,7 @@ names-say n l =
 run-encoded-says : (p : Run) → Says (run-encoded p) (RunEncoded p)
 unfolding run-encoded
 run-encoded-says p =
-    let s = says-eq (length (p .registers)) registerCount and says-self (all-fit (p .registers)) and says-self (every (λ x. fits (x .value)) (p .reads)) and says-self (every (λ x. fits (x .value)) (p .writes)) in (
+    let s = says-eq (length (p .registers)) register-count and says-self (all-fit (p .registers)) and says-self (every (λ x. fits (x .value)) (p .reads)) and says-self (every (λ x. fits (x .value)) (p .writes)) in (
       λ e. (let (((c, g), r), w) = s .0 e in record { count = c; registers = g; reads = r; writes = w }),
       λ v. s .1 (((v .count, v .registers), v .reads), v .writes),
     )
@@ -135,7 +142,7 @@ encoded-says l u =
     let sequences = says-all (λ (s : Transaction). ltb (s .sequence) (2 ^ 32)) (λ s. s .sequence < 2 ^ 32) (λ s. says-le (suc (s .sequence)) (2 ^ 32)) (sents (u .pending)) in
     let values = says-all (λ (vs : List Version). all (λ v. fits (v .value)) vs) (λ vs. all (λ v. fits (v .value)) vs ≡ true) (λ vs. says-self (all (λ v. fits (v .value)) vs)) (u .objects) in
     let runs = says-all (λ (j : Pending). run-encoded (j .run)) (λ j. RunEncoded (j .run)) (λ j. run-encoded-says (j .run)) (u .pending) in
-    let s = says-le (u .timestamp) lastTimestamp and says-self (all (λ s. ltb s (2 ^ 32)) (u .lasts)) and sequences and says-eq (length (u .lasts)) clients and says-eq (length (u .readers)) (l .readers) and values and runs in (
+    let s = says-le (u .timestamp) last-timestamp and says-self (all (λ s. ltb s (2 ^ 32)) (u .lasts)) and sequences and says-eq (length (u .lasts)) clients and says-eq (length (u .readers)) (l .readers) and values and runs in (
       λ e. (let ((((((t, ls), q), c), r), v), p) = s .0 e in record { timestamp = t; lasts = ls; sequences = q; last-count = c; reader-count = r; values = v; runs = p }),
       λ v. s .1 ((((((v .timestamp, v .lasts), v .sequences), v .last-count), v .reader-count), v .values), v .runs),
     )
@@ -145,7 +152,8 @@ encoded-says l u =
 run-says : (n m : ℕ) (p : Run) → Says (run-shaped n m p) (Standing m p × Sets n p)
 unfolding run-shaped
 run-says n m p =
-    let s = says-or (says-le 1 (p .counter)) (at-start-says p) and says-le (p .counter) m and says-le (p .outcome) 2 and says-or (says-eq (p .outcome) 0) (says-empty (p .writes)) and says-le (length (p .reads) + length (p .writes)) (p .counter) and names-say n (p .reads) and names-say n (p .writes) in (
+    let stands = says-or (says-le 1 (p .counter)) (at-start-says p) and says-le (p .counter) m and says-le (p .outcome) 2 and says-or (says-eq (p .outcome) 0) (says-empty (p .writes)) in
+    let s = stands and says-le (length (p .reads) + length (p .writes)) (p .counter) and names-say n (p .reads) and names-say n (p .writes) in (
       λ e. (let ((((((b, i), o), t), m), r), w) = s .0 e in (record { begun = b; within = i; outcome = o; stopped = t }, record { reads = r; writes = w; room = m })),
       λ v. s .1 ((((((v .0 .begun, v .0 .within), v .0 .outcome), v .0 .stopped), v .1 .room), v .1 .reads), v .1 .writes),
     )
@@ -186,7 +194,7 @@ stand n (j ∷ js) o k = ((state-standing j (o .0), k .0), stand n js (o .1) (k 
 -- ---- the whole
 
 -- a well-formed body has at least one operation
-pub bodies-non-empty : (l : Limits) (n : ℕ) (js : List Pending) → All (λ (s : Transaction). wellFormed (l .operations) n (s .bytes) ≡ true) (sents js) → NonEmpty js
+pub bodies-non-empty : (l : Limits) (n : ℕ) (js : List Pending) → All (λ (s : Transaction). is-well-formed (l .operations) n (s .bytes) ≡ true) (sents js) → NonEmpty js
 bodies-non-empty l n js h =
     all-map (λ (s : Transaction). 1 ≤ size (s .bytes)) (λ (j : Pending). j .sent) js (all-implies _ (λ (s : Transaction). 1 ≤ size (s .bytes)) (λ s e. formed (l .operations) n (s .bytes) e .some) (sents js) h)
 
@@ -200,7 +208,8 @@ shaped-says l u =
     let versions = says-all (versions-shaped (u .timestamp) (opens (u .readers))) (VersionsShape (u .timestamp) (opens (u .readers))) (versions-say (u .timestamp) (opens (u .readers))) (u .objects) in
     let readers = says-each (λ r. leb r (u .timestamp)) (λ r. r ≤ u .timestamp) (λ r. says-le r (u .timestamp)) (opens (u .readers)) in
     let keys = says-all (key-unspent (u .lasts)) (Unspent (u .lasts)) (key-says (u .lasts)) (sents (u .pending)) in
-    let bodies = says-all (λ (s : Transaction). wellFormed (l .operations) n (s .bytes)) (λ (s : Transaction). wellFormed (l .operations) n (s .bytes) ≡ true) (λ s. says-self (wellFormed (l .operations) n (s .bytes))) (sents (u .pending)) in
+    let formed : Transaction → Bool = λ s. is-well-formed (l .operations) n (s .bytes) in
+    let bodies = says-all formed (λ s. formed s ≡ true) (λ s. says-self (formed s)) (sents (u .pending)) in
     let runs = says-all (λ (j : Pending). run-shaped n (size-of j) (j .run)) (λ (j : Pending). Standing (size-of j) (j .run) × Sets n (j .run)) (λ j. run-says n (size-of j) (j .run)) (u .pending) in
     let s = counts and few and versions and readers and says-self (distinct-keys (sents (u .pending))) and keys and bodies and says-self (in-order true (u .pending)) and runs and encoded-says l u in (
       λ e.
@@ -220,6 +229,8 @@ shaped-says l u =
             encoded = encoded;
           }),
       λ v.
+          (let stands = stand n (u .pending) (in-order-states (u .pending) (v .order)) (v .sets) in
+          let order = from-order (u .pending) (v .order) in
           s .1
-          (((((((((((v .some-object, v .few-objects), v .few-pending), v .few-versions), v .versions), v .readers), v .distinct), v .unspent), v .bodies), from-order (u .pending) (v .order)), stand n (u .pending) (in-order-states (u .pending) (v .order)) (v .sets)), v .encoded),
+          (((((((((((v .some-object, v .few-objects), v .few-pending), v .few-versions), v .versions), v .readers), v .distinct), v .unspent), v .bodies), order), stands), v .encoded)),
     )

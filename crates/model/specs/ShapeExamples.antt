@@ -13,8 +13,8 @@ use Rattle.operation.specs.declared.Operation.the-variants.{Load, Store, Set, A
 use Rattle.execution.specs.Entries.{Entry, entry}
 use Rattle.execution.specs.Run.{Run, start}
 use Rattle.model.specs.Lists.{any, all}
-use Rattle.model.specs.Calls.{Call, optimistic, execute, final, open-reader, close-reader}
-use Rattle.model.specs.Serial.{Version}
+use Rattle.model.specs.Calls.{plain, Call, optimistic, execute, final, open-reader, close-reader}
+use Rattle.model.specs.Start.{Version, start-of}
 use Rattle.model.specs.Replica.{Pending, Replica, opened, call}
 use Rattle.model.specs.Limits.{small}
 use Rattle.model.specs.Computing.{computing}
@@ -57,7 +57,7 @@ history =
     ∷ final 2 1
     ∷ []
 
-pub history-shaped : always (opened small (pos 10 ∷ pos 20 ∷ pos 30 ∷ []) 0) history ≡ true
+pub history-shaped : always (opened small (start-of (plain (pos 10 ∷ pos 20 ∷ pos 30 ∷ []) 0))) history ≡ true
 unfolding checking always history
 history-shaped = refl
 

@@ -1,7 +1,7 @@
 -- Every call keeps the shape, from any replica that has it, forged early results included; an accepted opening gives it. Assumes nothing.
 use mathlib.Core.Path.{_≡_, refl, _∙_}
 use mathlib.Core.Logic.{_⊎_, inl, inr}
-use mathlib.Core.Bool.{true, false, not, _||_, false≢true, true≢false}
+use mathlib.Core.Bool.{Bool, true, false, not, _||_, false≢true, true≢false}
 use mathlib.Core.Option.{none, some}
 use mathlib.Core.List.{List, [], _∷_, _++_, map, map-append}
 use Prim.Native.Nat.{ℕ, zero, suc, _^_, _≤_, _<_}
@@ -11,37 +11,37 @@ use lib.Dec.{eqb, ltb}
 use lib.ListN.{length, set, replicate, length-map, length-set, length-append, length-replicate}
 use borrow.Author.Tests.{eq-eqb, eqb-true, leb-false, le-leb, lt-ltb, ltb-false, not-false}
 use Rattle.arith.specs.Integer.{fits}
-use Rattle.operation.specs.Body.{size, operations, wellFormed}
+use Rattle.operation.specs.Body.{size, operations, is-well-formed}
 use Rattle.execution.specs.Entries.{Entry}
 use Rattle.execution.specs.Run.{Table, start}
-use Rattle.execution.specs.Agreement.{both}
-use Rattle.execution.specs.Shape.{Entries, Shaped, start-shaped}
+use Rattle.execution.specs.ReadAgreement.{both}
+use Rattle.execution.specs.RunShape.{Entries, Shaped, start-shaped}
 use Rattle.model.specs.declared.Limits.{Limits}
-use Rattle.model.specs.Lists.{pick, keep, any, all}
-use Rattle.model.specs.Calls.{Call, opening, optimistic, execute, final, open-reader, read, close-reader, find, show-body, Transaction, Facts, is-key, leaves, causes, refusal, judged, clients, lastTimestamp}
-use Rattle.model.specs.Serial.{Version}
-use Rattle.model.specs.Replica.{Pending, Replica, opens, held, prune, install, table, program, worked, walk, pending-of, has-key, stays, result, facts, commit, opened, perform, call, calls}
+use Rattle.model.specs.Lists.{keep, any, all}
+use Rattle.model.specs.Interface.{Opening, by-values, optimistic, execute, final, open-reader, close-reader, Call, opening, update, query}
+use Rattle.model.specs.Calls.{Transaction, Facts, is-key, leaves, causes, refusal, judged, clients, last-timestamp}
+use Rattle.model.specs.Start.{Version, Start, start-of}
+use Rattle.model.specs.Replica.{Pending, Replica, opens, held, prune, install, table, committed-table, program, worked, walk, keyed, stays, result, facts, commit, opened, perform, call, calls}
 use Rattle.model.specs.ListLaws.{All, all-mapped, all-keep, all-append, all-map, all-implies, map-keep, all-keep-with, all-both, length-keep}
-use Rattle.model.specs.Versions.{length-install}
+use Rattle.model.specs.VersionLaws.{length-install, Dated, opening-dated}
 use Rattle.model.specs.EarlyResults.{ordered-keep, ordered-append, walk-ordered, worked-ordered, sents, worked-sents, walk-sents}
 use Rattle.model.specs.Refusals.{accepted}
 use Rattle.model.specs.Tests.{neither, all-after-set}
 use Rattle.model.specs.Shape.{VersionsShape, Shape}
 use Rattle.model.specs.ShapeCheck.{shaped, shaped-says}
-use Rattle.model.specs.ShapeParts.{Fit, Formed, Key, AllFormed, Objects, Queue, objects-part, pending-part, together, same-length, distinct-keep, distinct-append, still-unspent, pending-sequence, table-fits, prune-fits, install-fits, install-versions, worked-shaped, walk-shaped, result-shaped, pick-found, opens-kept, opened-who, closed-who}
+use Rattle.model.specs.ShapeParts.{Fit, Formed, Key, AllFormed, Objects, Queue, objects-part, pending-part, together, same-length, distinct-keep, distinct-append, still-unspent}
+use Rattle.model.specs.ShapeParts.{pending-sequence, table-fits, prune-fits, install-fits, install-versions, worked-shaped, walk-shaped, result-shaped, pick-found, opens-still, opened-who, closed-who}
 use Rattle.model.specs.Held.{close-shape, open-shape}
 
 -- what the types of the code's arguments give: values of 64 bits, timestamps and sequence numbers of 32
 abbrev pub Typed : Call → Type 0
-Typed (opening n vs t) = (all fits vs ≡ true) × (t ≤ lastTimestamp)
-Typed (optimistic c s b) = s < 2 ^ 32
-Typed (execute k) = Unit {0}
-Typed (final c s) = Unit {0}
-Typed (open-reader r) = Unit {0}
-Typed (read r o) = Unit {0}
-Typed (close-reader r) = Unit {0}
-Typed (find c s) = Unit {0}
-Typed (show-body c s) = Unit {0}
+Typed (opening (by-values n vs t)) = (all fits vs ≡ true) × (t ≤ last-timestamp)
+Typed (update (optimistic c s b)) = s < 2 ^ 32
+Typed (update (execute k)) = Unit {0}
+Typed (update (final c s)) = Unit {0}
+Typed (update (open-reader r)) = Unit {0}
+Typed (update (close-reader r)) = Unit {0}
+Typed (query q) = Unit {0}
 
 -- ---- an opening
 
@@ -49,48 +49,74 @@ nobody : (k : ℕ) → opens (replicate k none) ≡ []
 nobody zero = refl
 nobody (suc k) = nobody k
 
-all-zero : (k : ℕ) → all (λ s. ltb s (2 ^ 32)) (replicate k 0) ≡ true
-all-zero zero = refl
-all-zero (suc k) = all-zero k
+all-same : (q : ℕ → Bool) (x : ℕ) → q x ≡ true → (k : ℕ) → all q (replicate k x) ≡ true
+all-same q x e zero = refl
+all-same q x e (suc k) = rw e (all-same q x e k)
+
+-- what the shape asks of where an opening starts
+pub record StartShape (l : Limits) (s : Start) : Type 0 where
+  pub some-object : 0 < length (s .versions)
+  pub few-objects : length (s .versions) ≤ l .objects
+  pub timestamp : s .timestamp ≤ last-timestamp
+  pub dated : Dated s
+  pub values : all (λ (v : Version). fits (v .value)) (s .versions) ≡ true
+  pub last-count : length (s .lasts) ≡ clients
+  pub lasts : all (λ q. ltb q (2 ^ 32)) (s .lasts) ≡ true
 
 module _ (l : Limits) where
-  opened-shape : (vs : List ℤ) (t : ℕ) → all fits vs ≡ true → t ≤ lastTimestamp → 0 < length vs → length vs ≤ l .objects → Shape l (opened l vs t)
+  opened-shape : (s : Start) → StartShape l s → Shape l (opened l s)
   unfolding opened held
-  opened-shape vs t f h least most =
-      together l (opened l vs t)
+  opened-shape s k =
+      together l (opened l s)
       (record {
-        some-object = rw (length-map {B = List Version} vs (λ v. record { stamp = t; value = v } ∷ [])) least;
-        few-objects = rw (length-map {B = List Version} vs (λ v. record { stamp = t; value = v } ∷ [])) most;
-        timestamp = h;
-        versions = rw (nobody (l .readers)) (first vs);
-        values = fit vs f;
+        some-object = rw (length-map {B = List Version} (s .versions) (λ v. v ∷ [])) (k .some-object);
+        few-objects = rw (length-map {B = List Version} (s .versions) (λ v. v ∷ [])) (k .few-objects);
+        timestamp = k .timestamp;
+        versions = rw (nobody (l .readers)) (all-mapped (VersionsShape (s .timestamp) []) (λ v. v ∷ []) (s .versions) (all-implies _ _ first (s .versions) (k .dated)));
+        values = all-mapped Fit (λ v. v ∷ []) (s .versions) (fit (s .versions) (k .values));
         before = rw (nobody (l .readers)) (λ r e. absurd (false≢true e));
         reader-count = length-replicate (l .readers) none;
       })
-      (record { few-pending = omega arith; small = all-zero clients; last-count = length-replicate clients 0; distinct = refl; keys = tt; ordered = tt; runs = tt })
+      (record { few-pending = omega arith; small = k .lasts; last-count = k .last-count; distinct = refl; keys = tt; ordered = tt; runs = tt })
     where
-      first : (vs : List ℤ) → All (VersionsShape t []) (map (λ v. record { stamp = t; value = v } ∷ []) vs)
-      first [] = tt
-      first (v ∷ vs) =
-          (record { least = omega arith; order = refl; bound = rw (le-leb t t (omega arith)); each = rw (eq-eqb t t refl); served = λ r e. absurd (false≢true e) }, first vs)
+      first : (v : Version) → v .stamp ≤ s .timestamp → VersionsShape (s .timestamp) [] (v ∷ [])
+      first v h =
+          record { least = omega arith; order = refl; bound = rw (le-leb (v .stamp) (s .timestamp) h); each = rw (eq-eqb (v .stamp) (v .stamp) refl); served = λ r e. absurd (false≢true e) }
 
-      fit : (vs : List ℤ) → all fits vs ≡ true → All Fit (map (λ v. record { stamp = t; value = v } ∷ []) vs)
+      fit : (vs : List Version) → all (λ (v : Version). fits (v .value)) vs ≡ true → All (λ v. Fit (v ∷ [])) vs
       fit [] e = tt
-      fit (v ∷ vs) e = let k = both (fits v) (all fits vs) e in (rw (k .0), fit vs (k .1))
+      fit (v ∷ vs) e = let k = both (fits (v .value)) (all (λ (v : Version). fits (v .value)) vs) e in (rw (k .0), fit vs (k .1))
 
-  -- an accepted opening gives the shape, whatever was there before
-  pub opening-shape : (f : Facts) (n : ℕ) (vs : List ℤ) (t : ℕ) → Typed (opening n vs t) → refusal l f (opening n vs t) ≡ 0 → Shape l (opened l vs t)
+  -- an accepted opening starts so
+  opening-start : (f : Facts) (o : Opening) → Typed (opening o) → refusal l f (opening o) ≡ 0 → StartShape l (start-of o)
   unfolding causes
-  opening-shape f n vs t a e =
-      let k = neither (eqb n 0 || ltb (l .objects) n) (not (eqb (length vs) n)) (accepted l f (opening n vs t) e .0) in
+  opening-start f (by-values n vs t) a e =
+      let k = neither (eqb n 0 || ltb (l .objects) n) (not (eqb (length vs) n)) (accepted l f (opening (by-values n vs t)) e .0) in
       let h = neither (eqb n 0) (ltb (l .objects) n) (k .0) in
       let q = eqb-true (length vs) n (not-false (eqb (length vs) n) (k .1)) in
       let m = ltb-false (l .objects) n (h .1) in
-      opened-shape vs t (a .0) (a .1) (least n (h .0) q) (omega arith)
+      let z = length-map {B = Version} vs (λ v. record { stamp = t; value = v }) in
+      record {
+        some-object = omega (arith, z, least n (h .0) q);
+        few-objects = omega (arith, z);
+        timestamp = a .1;
+        dated = opening-dated l f (by-values n vs t) e;
+        values = fit vs (a .0);
+        last-count = length-replicate clients _;
+        lasts = all-same (λ s. ltb s (2 ^ 32)) _ refl clients;
+      }
     where
       least : (n : ℕ) → eqb n 0 ≡ false → length vs ≡ n → 0 < length vs
       least zero e q = absurd (true≢false e)
       least (suc n) e q = omega arith
+
+      fit : (vs : List ℤ) → all fits vs ≡ true → all (λ (v : Version). fits (v .value)) (start-of (by-values n vs t) .versions) ≡ true
+      fit [] e = refl
+      fit (v ∷ vs) e = let k = both (fits v) (all fits vs) e in rw (k .0, fit vs (k .1))
+
+  -- so it gives the shape, whatever was there before
+  pub opening-shape : (f : Facts) (o : Opening) → Typed (opening o) → refusal l f (opening o) ≡ 0 → Shape l (opened l (start-of o))
+  opening-shape f o a e = opened-shape (start-of o) (opening-start f o a e)
 
   -- ---- the other calls
 
@@ -99,7 +125,7 @@ module _ (l : Limits) where
     n = length (u .objects)
 
     abbrev S : Table
-    S = table (u .objects)
+    S = committed-table u
 
     o : Objects l u
     o = objects-part l u k
@@ -113,7 +139,7 @@ module _ (l : Limits) where
     bodies : AllFormed l n (u .pending)
     bodies = all-map (Formed l n) (λ (j : Pending). j .sent) (u .pending) (k .bodies)
 
-    optimistic-shape : (c s : ℕ) (b : List ℕ) → s < 2 ^ 32 → refusal l (facts u) (optimistic c s b) ≡ 0 → Shape l (perform l u (optimistic c s b) .1)
+    optimistic-shape : (c s : ℕ) (b : List ℕ) → s < 2 ^ 32 → refusal l (facts u) (update (optimistic c s b)) ≡ 0 → Shape l (perform l u (update (optimistic c s b)) .1)
     unfolding perform facts causes
     optimistic-shape c s b hs e =
         together l _ o
@@ -130,16 +156,16 @@ module _ (l : Limits) where
         j : Pending
         j = record { sent = record { client = c; sequence = s; bytes = b }; run = start }
 
-        a : All (λ x. x .0 ≡ false) (causes l (facts u) (optimistic c s b))
-        a = accepted l (facts u) (optimistic c s b) e
+        a : All (λ x. x .0 ≡ false) (causes l (facts u) (update (optimistic c s b)))
+        a = accepted l (facts u) (update (optimistic c s b)) e
 
         new : Key l n (u .lasts) (j .sent)
-        new = record { unspent = record { client = leb-false clients c (a .0); above = a .1 .0 }; sequence = hs; body = not-false (wellFormed (l .operations) n b) (a .1 .1 .1 .0) }
+        new = record { unspent = record { client = leb-false clients c (a .0); above = a .1 .0 }; sequence = hs; body = not-false (is-well-formed (l .operations) n b) (a .1 .1 .1 .0) }
 
         here : sents (u .pending ++ (j ∷ [])) ≡ sents (u .pending) ++ (j .sent ∷ [])
         here = map-append (λ (j : Pending). j .sent) (u .pending) (j ∷ [])
 
-    execute-shape : (c : ℕ) → Shape l (perform l u (execute c) .1)
+    execute-shape : (c : ℕ) → Shape l (perform l u (update (execute c)) .1)
     unfolding perform
     execute-shape c =
         together l _ o
@@ -156,14 +182,14 @@ module _ (l : Limits) where
         here : sents (worked S c (u .pending)) ≡ sents (u .pending)
         here = worked-sents S c (u .pending)
 
-    final-shape : (c s : ℕ) → refusal l (facts u) (final c s) ≡ 0 → Shape l (perform l u (final c s) .1)
+    final-shape : (c s : ℕ) → refusal l (facts u) (update (final c s)) ≡ 0 → Shape l (perform l u (update (final c s)) .1)
     unfolding perform commit facts causes
     final-shape c s e =
         together l _
         (record {
           some-object = rw size (o .some-object);
           few-objects = rw size (o .few-objects);
-          timestamp = leb-false lastTimestamp (u .timestamp) (a .1 .1 .1 .0);
+          timestamp = leb-false last-timestamp (u .timestamp) (a .1 .1 .1 .0);
           versions = install-versions (u .timestamp) rs writes (u .objects) (o .versions);
           values = install-fits n t rs writes entries (u .objects) (o .values);
           before = λ r h. (let m = o .before r h in omega arith);
@@ -179,8 +205,8 @@ module _ (l : Limits) where
           runs = rw size (walk-shaped l n (table objs) left (all-keep _ (stays c s) (u .pending) (q .runs)));
         })
       where
-        a : All (λ x. x .0 ≡ false) (causes l (facts u) (final c s))
-        a = accepted l (facts u) (final c s) e
+        a : All (λ x. x .0 ≡ false) (causes l (facts u) (update (final c s)))
+        a = accepted l (facts u) (update (final c s)) e
 
         key : any (is-key c s) (sents (u .pending)) ≡ true
         key = not-false (any (is-key c s) (sents (u .pending))) (a .1 .1 .0)
@@ -192,14 +218,16 @@ module _ (l : Limits) where
         rs = opens (u .readers)
 
         j : Pending
-        j = pending-of (pick (has-key c s) (u .pending))
+        j = keyed u c s
 
         writes : List Entry
         writes = result S j .writes
 
         entries : Entries n writes
         entries =
-            pick-found (λ (j : Pending). Entries n (result S j .writes)) c s (u .pending) (all-both (λ (j : Pending). Formed l n (j .sent)) (λ (j : Pending). Shaped n (program j) (j .run)) _ (u .pending) (λ j w v. result-shaped l n S fit j w v .writes) bodies (q .runs)) key
+            pick-found (λ (j : Pending). Entries n (result S j .writes)) c s (u .pending)
+            (all-both (λ (j : Pending). Formed l n (j .sent)) (λ (j : Pending). Shaped n (program j) (j .run)) _ (u .pending) (λ j w v. result-shaped l n S fit j w v .writes) bodies (q .runs))
+            key
 
         objs : List (List Version)
         objs = install t rs writes (u .objects)
@@ -217,7 +245,7 @@ module _ (l : Limits) where
         still x g h =
             record { unspent = still-unspent (u .lasts) c s x (let m = leb-false clients c (a .0) in let p = q .last-count in omega arith) g (h .unspent); sequence = h .sequence; body = h .body }
 
-    open-reader-shape : (r : ℕ) → refusal l (facts u) (open-reader r) ≡ 0 → Shape l (perform l u (open-reader r) .1)
+    open-reader-shape : (r : ℕ) → refusal l (facts u) (update (open-reader r)) ≡ 0 → Shape l (perform l u (update (open-reader r)) .1)
     unfolding perform facts causes
     open-reader-shape r e =
         together l _
@@ -225,7 +253,7 @@ module _ (l : Limits) where
           some-object = o .some-object;
           few-objects = o .few-objects;
           timestamp = o .timestamp;
-          versions = all-implies (VersionsShape t rs) (VersionsShape t ts) (λ vs. open-shape t rs ts vs (opens-kept (u .readers) r t (accepted l (facts u) (open-reader r) e .1 .0)) (opened-who (u .readers) r t)) (u .objects) (o .versions);
+          versions = all-implies (VersionsShape t rs) (VersionsShape t ts) (λ vs. open-shape t rs ts vs still-open (opened-who (u .readers) r t)) (u .objects) (o .versions);
           values = o .values;
           before = λ x h. sooner x (opened-who (u .readers) r t x h);
           reader-count = length-set (u .readers) r _ ∙ o .reader-count;
@@ -241,11 +269,14 @@ module _ (l : Limits) where
         ts : List ℕ
         ts = opens (set (u .readers) r (some t))
 
+        still-open : (x : ℕ) → any (eqb x) rs ≡ true → any (eqb x) ts ≡ true
+        still-open = opens-still (u .readers) r t (accepted l (facts u) (update (open-reader r)) e .1 .0)
+
         sooner : (x : ℕ) → (t ≡ x) ⊎ (any (eqb x) rs ≡ true) → x ≤ t
         sooner x (inl p) = omega arith
         sooner x (inr h) = o .before x h
 
-    close-reader-shape : (r : ℕ) → Shape l (perform l u (close-reader r) .1)
+    close-reader-shape : (r : ℕ) → Shape l (perform l u (update (close-reader r)) .1)
     unfolding perform
     close-reader-shape r =
         together l _
@@ -271,15 +302,13 @@ module _ (l : Limits) where
 
     perform-shape : (c : Call) → Typed c → refusal l (facts u) c ≡ 0 → Shape l (perform l u c .1)
     unfolding perform
-    perform-shape (opening n vs t) a e = opening-shape (facts u) n vs t a e
-    perform-shape (optimistic c s b) a e = optimistic-shape c s b a e
-    perform-shape (execute c) a e = execute-shape c
-    perform-shape (final c s) a e = final-shape c s e
-    perform-shape (open-reader r) a e = open-reader-shape r e
-    perform-shape (read r x) a e = k
-    perform-shape (close-reader r) a e = close-reader-shape r
-    perform-shape (find c s) a e = k
-    perform-shape (show-body c s) a e = k
+    perform-shape (opening o) a e = opening-shape (facts u) o a e
+    perform-shape (update (optimistic c s b)) a e = optimistic-shape c s b a e
+    perform-shape (update (execute c)) a e = execute-shape c
+    perform-shape (update (final c s)) a e = final-shape c s e
+    perform-shape (update (open-reader r)) a e = open-reader-shape r e
+    perform-shape (update (close-reader r)) a e = close-reader-shape r
+    perform-shape (query q) a e = k
 
     pub call-shape : (c : Call) → Typed c → Shape l (call l u c .1)
     unfolding call
@@ -299,9 +328,10 @@ module _ (l : Limits) where
   pub call-shaped : (u : Replica) (c : Call) → Typed c → shaped l u ≡ true → shaped l (call l u c .1) ≡ true
   call-shaped u c a e = shaped-says l (call l u c .1) .1 (call-shape u (shaped-says l u .0 e) c a)
 
-  pub opening-shaped : (f : Facts) (n : ℕ) (vs : List ℤ) (t : ℕ) → Typed (opening n vs t) → refusal l f (opening n vs t) ≡ 0 → shaped l (opened l vs t) ≡ true
-  opening-shaped f n vs t a e = shaped-says l (opened l vs t) .1 (opening-shape f n vs t a e)
+  pub opening-shaped : (f : Facts) (o : Opening) → Typed (opening o) → refusal l f (opening o) ≡ 0 → shaped l (opened l (start-of o)) ≡ true
+  opening-shaped f o a e = shaped-says l (opened l (start-of o)) .1 (opening-shape f o a e)
 
   -- "Seven readers .. and eight versions an object therefore always suffice"
-  pub versions-suffice : (f : Facts) (n : ℕ) (vs : List ℤ) (t : ℕ) → Typed (opening n vs t) → refusal l f (opening n vs t) ≡ 0 → (cs : List Call) → All Typed cs → All (λ (xs : List Version). length xs ≤ suc (l .readers)) (calls l (opened l vs t) cs .1 .objects)
-  versions-suffice f n vs t a e cs b = calls-shape cs (opened l vs t) (opening-shape f n vs t a e) b .few-versions
+  pub versions-suffice : (f : Facts) (o : Opening) → Typed (opening o) → refusal l f (opening o) ≡ 0
+      → (cs : List Call) → All Typed cs → All (λ (xs : List Version). length xs ≤ suc (l .readers)) (calls l (opened l (start-of o)) cs .1 .objects)
+  versions-suffice f o a e cs b = calls-shape cs (opened l (start-of o)) (opening-shape f o a e) b .few-versions

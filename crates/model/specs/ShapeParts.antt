@@ -13,19 +13,19 @@ use lib.ListN.{length, getD, set, length-map}
 use lib.Seq.{getD-set-same, getD-set-other}
 use borrow.Author.Tests.{eq-eqb, eqb-true, eqb-false, ne-eqb, not-true}
 use Rattle.arith.specs.Integer.{fits}
-use Rattle.operation.specs.Body.{operations, wellFormed}
-use Rattle.operation.specs.Laws.{valid-drop}
+use Rattle.operation.specs.Body.{operations, is-well-formed}
+use Rattle.operation.specs.BodyLaws.{valid-drop}
 use Rattle.execution.specs.Entries.{Entry, lookup}
 use Rattle.execution.specs.Run.{Table, Run, start, steps, whole, matches, over}
-use Rattle.execution.specs.Agreement.{both}
-use Rattle.execution.specs.Shape.{Entries, lookup-fits, Shaped, steps-shaped, start-shaped, over-fits}
+use Rattle.execution.specs.ReadAgreement.{both}
+use Rattle.execution.specs.RunShape.{Entries, lookup-fits, Shaped, steps-shaped, start-shaped, over-fits}
 use Rattle.model.specs.declared.Limits.{Limits}
 use Rattle.model.specs.Lists.{pick, keep, any, all}
-use Rattle.model.specs.Calls.{Transaction, is-key, leaves, spent, clients, lastTimestamp}
+use Rattle.model.specs.Calls.{Transaction, is-key, leaves, spent, clients, last-timestamp}
 use Rattle.model.specs.Serial.{Version, is-some}
 use Rattle.model.specs.Replica.{Pending, Replica, newest, opens, held, prune, pushed, install, table, program, finished, advance, used, worked, restarted, walk, pending-of, has-key, validated, result}
 use Rattle.model.specs.ListLaws.{All, all-implies, all-mapi, or-right}
-use Rattle.model.specs.Versions.{opens-set}
+use Rattle.model.specs.VersionLaws.{opens-set}
 use Rattle.model.specs.EarlyResults.{Ordered, sents}
 use Rattle.model.specs.Tests.{neither, all-keeps, any-keep, any-append}
 use Rattle.model.specs.Shape.{VersionsShape, distinct-keys, Unspent, Shape}
@@ -41,14 +41,14 @@ Fit vs = all (λ v. fits (v .value)) vs ≡ true
 pub record ObjectsPart (l : Limits) (t : ℕ) (objs : List (List Version)) (readers : List (Option ℕ)) : Type 0 where
   pub some-object : 0 < length objs
   pub few-objects : length objs ≤ l .objects
-  pub timestamp : t ≤ lastTimestamp
+  pub timestamp : t ≤ last-timestamp
   pub versions : All (VersionsShape t (opens readers)) objs
   pub values : All Fit objs
   pub before : (r : ℕ) → any (eqb r) (opens readers) ≡ true → r ≤ t
   pub reader-count : length readers ≡ l .readers
 
 abbrev pub Formed : Limits → ℕ → Transaction → Type 0
-Formed l n s = wellFormed (l .operations) n (s .bytes) ≡ true
+Formed l n s = is-well-formed (l .operations) n (s .bytes) ≡ true
 
 pub record Key (l : Limits) (n : ℕ) (lasts : List ℕ) (s : Transaction) : Type 0 where
   pub unspent : Unspent lasts s
@@ -290,12 +290,12 @@ pick-found P c s (j ∷ js) h e = go′ (has-key c s j) e (pick-found P c s js (
 -- ---- readers
 
 -- opening a closed reader leaves the others open
-pub opens-kept : (rs : List (Option ℕ)) (i t : ℕ) → getD (map is-some rs) i false ≡ false → (r : ℕ) → any (eqb r) (opens rs) ≡ true → any (eqb r) (opens (set rs i (some t))) ≡ true
-opens-kept [] i t h r e = e
-opens-kept (none ∷ rs) zero t h r e = or-right (eqb r t) (any (eqb r) (opens rs)) e
-opens-kept (some x ∷ rs) zero t h r e = absurd (true≢false h)
-opens-kept (none ∷ rs) (suc i) t h r e = opens-kept rs i t h r e
-opens-kept (some x ∷ rs) (suc i) t h r e = go′ (eqb r x) e (opens-kept rs i t h r)
+pub opens-still : (rs : List (Option ℕ)) (i t : ℕ) → getD (map is-some rs) i false ≡ false → (r : ℕ) → any (eqb r) (opens rs) ≡ true → any (eqb r) (opens (set rs i (some t))) ≡ true
+opens-still [] i t h r e = e
+opens-still (none ∷ rs) zero t h r e = or-right (eqb r t) (any (eqb r) (opens rs)) e
+opens-still (some x ∷ rs) zero t h r e = absurd (true≢false h)
+opens-still (none ∷ rs) (suc i) t h r e = opens-still rs i t h r e
+opens-still (some x ∷ rs) (suc i) t h r e = go′ (eqb r x) e (opens-still rs i t h r)
   where
     go′ : (b : Bool) → b || any (eqb r) (opens rs) ≡ true → (any (eqb r) (opens rs) ≡ true → any (eqb r) (opens (set rs i (some t))) ≡ true) → b || any (eqb r) (opens (set rs i (some t))) ≡ true
     go′ true e k = refl

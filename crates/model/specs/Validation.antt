@@ -12,7 +12,7 @@ use Rattle.operation.specs.declared.Operation.{Operation}
 use Rattle.execution.specs.Run.{Table, Move, get, put, go, halt, move, Run, start, known, got, apply, due, obey, step, steps, matches, over}
 use Rattle.model.specs.declared.Limits.{Limits}
 use Rattle.model.specs.Calls.{final, committed, refusal}
-use Rattle.model.specs.Replica.{Pending, Replica, table, finished, walk, validated, result, facts, commit, perform, call}
+use Rattle.model.specs.Replica.{Pending, Replica, committed-table, finished, walk, validated, result, facts, commit, perform, call}
 use Rattle.model.specs.EarlyResults.{Reached, Chain}
 use Rattle.model.specs.Simulation.{matches-append}
 use Rattle.model.specs.Invariant.{Invariant}
@@ -57,4 +57,4 @@ unfolding call perform commit validated result
 first-validated l u v j js p f e =
     let h = rw p at (v .early) in
     rw
-    (e, p, eq-eqb (j .sent .client) (j .sent .client) refl, eq-eqb (j .sent .sequence) (j .sent .sequence) refl, f, reached-matches (table (u .objects)) j (h .0))
+    (e, p, eq-eqb (j .sent .client) (j .sent .client) refl, eq-eqb (j .sent .sequence) (j .sent .sequence) refl, f, reached-matches (committed-table u) j (h .0))

@@ -8,11 +8,11 @@ use Prim.Native.Nat.{ℕ, zero, suc, _+_}
 use native.Mathlib.Omega.{arith}
 use native.Mathlib.Nat.{sub-zero, suc-sub-suc}
 use Rattle.execution.specs.Run.{Table, steps, counted, over}
-use Rattle.execution.specs.Agreement.{both, stay, steps-step}
+use Rattle.execution.specs.ReadAgreement.{both, stay, steps-step}
 use Rattle.model.specs.declared.Limits.{Limits}
 use Rattle.model.specs.Lists.{all, count}
 use Rattle.model.specs.Calls.{execute, Answer, executed, refusal}
-use Rattle.model.specs.Replica.{Pending, Replica, table, program, finished, advance, used, worked, work-count, facts, perform, call}
+use Rattle.model.specs.Replica.{Pending, Replica, committed-table, program, finished, advance, used, worked, work-count, facts, perform, call}
 
 -- ---- one operation at a time
 
@@ -154,13 +154,13 @@ stops (suc c) S js = go′ (all finished js) refl (stops c S (operate S js))
 
 -- what an accepted Work c answers, and the pending transactions that it leaves
 pub record Worked (c : ℕ) (u : Replica) (r : Answer × Replica) : Type 0 where
-  pub pending : r .1 .pending ≡ times c (table (u .objects)) (u .pending)
-  pub answer : r .0 ≡ executed (operation-count c (table (u .objects)) (u .pending)) (count finished (r .1 .pending))
-  pub stopped : (operation-count c (table (u .objects)) (u .pending) ≡ c) ⊎ (all finished (r .1 .pending) ≡ true)
+  pub pending : r .1 .pending ≡ times c (committed-table u) (u .pending)
+  pub answer : r .0 ≡ executed (operation-count c (committed-table u) (u .pending)) (count finished (r .1 .pending))
+  pub stopped : (operation-count c (committed-table u) (u .pending) ≡ c) ⊎ (all finished (r .1 .pending) ≡ true)
 
 pub work : (l : Limits) (u : Replica) (c : ℕ) → refusal l (facts u) (execute c) ≡ 0 → Worked c u (call l u (execute c))
 unfolding call perform
 work l u c e =
-    let S = table (u .objects) in
+    let S = committed-table u in
     rw (e, worked-times c S (u .pending), count-times c S (u .pending))
     (record { pending = refl; answer = refl; stopped = stops c S (u .pending) })

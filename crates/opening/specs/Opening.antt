@@ -11,22 +11,24 @@ use lib.Seq.{drop-cons, sets-eq, take-at, drop-append-add, take-all, take-suc}
 use mir.Syntax.{w64}
 use mir.Val.{ofZ}
 use borrow.Rule.Slice.PartMut.{midOf, putMid}
-use Rattle.cells.specs.Cells.{uncells, putCell, Put, splice}
+use Rattle.cells.specs.Cells.{uncells, cell-put, Put, splice}
 use Rattle.cells.specs.Uncells.{length-uncells, uncells-append, uncells-set, uncells-zeros}
 use Rattle.model.specs.declared.Limits.{Limits}
-use Rattle.model.specs.Serial.{Version}
+use Rattle.model.specs.Calls.{plain}
+use Rattle.model.specs.Start.{Version, start-of}
 use Rattle.model.specs.Replica.{opened}
 use Rattle.model.specs.ListLaws.{All, all-append, all-mapped}
+use Rattle.versions.specs.Block as versions
+use Rattle.versions.specs.Block.{width, block}
 use Rattle.layout.specs.Rows.{flat, blank}
 use Rattle.layout.specs.RowLaws.{blanks, drop-blank}
-use Rattle.layout.specs.Codec.{Codec, counted, inBytes}
-use Rattle.layout.specs.Layout.{version, print}
+use Rattle.layout.specs.Layout.{print}
 use Rattle.layout.specs.Offsets.{Sane, object-width, object-at, size-at, record-length, bodies-length}
 use Rattle.layout.specs.OffsetLaws.{object-span}
 use Rattle.layout.specs.Printable.{ValueFits, ObjectFits}
 use Rattle.layout.specs.Holds.{Holds, HoldsBodies, holds-print, with-timestamp, with-objects}
 use Rattle.layout.specs.Writing.{put-timestamp, open-objects}
-use Rattle.layout.specs.Opening.{empty, opened-empty, opened-block, empty-holds, empty-bodies}
+use Rattle.layout.specs.EmptyAreas.{empty, opened-empty, empty-holds, empty-bodies}
 
 -- areas of the right lengths, whatever they hold, and start values within the limit
 pub record Lent (l : Limits) (b c : List ℕ) (vs : List ℤ) : Type 0 where
@@ -34,10 +36,6 @@ pub record Lent (l : Limits) (b c : List ℕ) (vs : List ℤ) : Type 0 where
   pub record-area : length b ≡ record-length l
   pub body-area : length c ≡ bodies-length l
   pub few : length vs ≤ l .objects
-
--- the cells of an object's block
-abbrev pub width : ℕ → ℕ
-width r = 3 + 2 * r
 
 -- blocks of zeros, one for each value
 pub record Blank (r : ℕ) (b : List ℕ) (vs : List ℤ) : Type 0 where
@@ -48,13 +46,15 @@ pub record Blank (r : ℕ) (b : List ℕ) (vs : List ℤ) : Type 0 where
 abbrev pub started : ℕ → List ℤ → List (List Version)
 started t vs = map (λ v. record { stamp = t; value = v } ∷ []) vs
 
--- an object's block, of which the limits tell the number of readers alone
-abbrev pub block : ℕ → Codec (List Version)
-block r = counted (suc r) version
-
 -- their blocks
 unfoldable pub opened-blocks : ℕ → ℕ → List ℤ → List ℕ
-opened-blocks r t vs = flat (map (inBytes (block r) .enc) (started t vs))
+opened-blocks r t vs = flat (map (λ x. uncells (block r x)) (started t vs))
+
+-- a block with one version
+opened-block : (r t : ℕ) (v : ℤ) → block r (record { stamp = t; value = v } ∷ []) ≡ 1 ∷ t ∷ ofZ w64 v ∷ blank (2 * r)
+unfolding block versions.flat
+opened-block r t v =
+    let e : 2 * (suc r - 1) ≡ 2 * r = omega arith in ap (λ (k : ℕ). 1 ∷ t ∷ ofZ w64 v ∷ blank k) e
 
 -- what `put_objects` leaves; and the values are 64-bit numbers, which their type says of each that is read
 pub record Started (r t : ℕ) (vs : List ℤ) (b : List ℕ) : Type 0 where
@@ -148,15 +148,16 @@ module _ (r : ℕ) (t : ℕ) (vs : List ℤ) (ys : List ℕ) where
           let behind : drop (at + length (1 ∷ t ∷ x ∷ [])) cells-now ≡ blank rest = ap (λ (k : ℕ). drop k cells-now) d ∙ drop-append-add (p .front) (blank (3 + rest)) 3 ∙ drop-blank 3 (3 + rest) ∙ ap blank e in
           rw (a, b) (sets-eq (1 ∷ t ∷ x ∷ []) cells-now at (omega (arith, long)) ∙ ap₂ (λ (f g : List ℕ). (f ++ (1 ∷ t ∷ x ∷ [])) ++ g) before behind ∙ append-assoc (p .front) (1 ∷ t ∷ x ∷ []) (blank rest))
 
-      pub filling-next : (y₁ y₂ y₃ : List ℕ) → Put ys y₁ at 1 → Put y₁ y₂ (at + 1) t → (x : ℕ) → x ≡ ofZ w64 (getD vs i (pos 0)) → Put y₂ y₃ (at + 2) x → ValueFits (getD vs i (pos 0)) → Filling r t vs y₃ (at + width r) (i + 1)
+      pub filling-next : (y₁ y₂ y₃ : List ℕ) → Put ys y₁ at 1 → Put y₁ y₂ (at + 1) t → (x : ℕ) → x ≡ ofZ w64 (getD vs i (pos 0)) → Put y₂ y₃ (at + 2) x
+          → ValueFits (getD vs i (pos 0)) → (w : ℕ) → w ≡ width r → Filling r t vs y₃ (at + w) (i + 1)
       unfolding rest opened-blocks flat
-      filling-next y₁ y₂ y₃ a b x ex d f =
+      filling-next y₁ y₂ y₃ a b x ex d f w ew =
           let new : List ℕ = 1 ∷ t ∷ x ∷ blank (2 * r) in
-          let e₁ : y₁ ≡ uncells (set cells-now at 1) = a .whole ∙ ap (λ (w : List ℕ). putCell w at 1) left ∙ uncells-set cells-now at 1 (omega (arith, long)) in
+          let e₁ : y₁ ≡ uncells (set cells-now at 1) = a .whole ∙ ap (λ (w : List ℕ). cell-put w at 1) left ∙ uncells-set cells-now at 1 (omega (arith, long)) in
           let e₂ : y₂ ≡ uncells (set (set cells-now at 1) (at + 1) t) =
-          b .whole ∙ ap (λ (w : List ℕ). putCell w (at + 1) t) e₁ ∙ uncells-set (set cells-now at 1) (at + 1) t (rw length-set (omega (arith, long))) in
+          b .whole ∙ ap (λ (w : List ℕ). cell-put w (at + 1) t) e₁ ∙ uncells-set (set cells-now at 1) (at + 1) t (rw length-set (omega (arith, long))) in
           let e₃ : y₃ ≡ uncells (set (set (set cells-now at 1) (at + 1) t) (at + 2) x) =
-          d .whole ∙ ap (λ (w : List ℕ). putCell w (at + 2) x) e₂ ∙ uncells-set (set (set cells-now at 1) (at + 1) t) (at + 2) x (simp length-set (omega (arith, long))) in
+          d .whole ∙ ap (λ (w : List ℕ). cell-put w (at + 2) x) e₂ ∙ uncells-set (set (set cells-now at 1) (at + 1) t) (at + 2) x (simp length-set (omega (arith, long))) in
           record {
             front = p .front ++ new;
             size = omega (arith, length-append (p .front) new, length-replicate {A = ℕ} (2 * r) 0, p .size);
@@ -169,7 +170,7 @@ module _ (r : ℕ) (t : ℕ) (vs : List ℤ) (ys : List ℕ) where
             done =
                 ap (λ (f : List ℕ). f ++ opened-blocks r t (drop (i + 1) vs)) (uncells-append (p .front) new)
                 ∙ append-assoc (uncells (p .front)) (uncells new) (opened-blocks r t (drop (i + 1) vs))
-                ∙ ap (λ (f : List ℕ). uncells (p .front) ++ (uncells f ++ opened-blocks r t (drop (i + 1) vs))) (ap (λ (v : ℕ). 1 ∷ t ∷ v ∷ blank (2 * r)) ex ∙ sym (opened-block (record { objects = 0; pending = 0; readers = r; operations = 0 }) t (getD vs i (pos 0))))
+                ∙ ap (λ (f : List ℕ). uncells (p .front) ++ (uncells f ++ opened-blocks r t (drop (i + 1) vs))) (ap (λ (v : ℕ). 1 ∷ t ∷ v ∷ blank (2 * r)) ex ∙ sym (opened-block r t (getD vs i (pos 0))))
                 ∙ ap (λ (x : List ℤ). uncells (p .front) ++ opened-blocks r t x) (sym here)
                 ∙ p .done;
           }
@@ -202,8 +203,8 @@ module _ (l : Limits) (s : Sane l) (vs : List ℤ) (few : length vs ≤ l .objec
 
   -- b: the record area with the objects' blocks; c: with their number too, at cell i; d: with the timestamp too
   pub opened-areas : (b c d : List ℕ) → b ≡ putMid (object-at l 0 * 8) (length vs * (object-width l * 8)) (blank (record-length l)) (opened-blocks (l .readers) t vs)
-      → (i : ℕ) → i ≡ size-at l → Put b c i (length vs) → Put c d 0 t → (bs : List ℕ) → bs ≡ blank (bodies-length l) → (d, bs) ≡ print l (opened l vs t)
-  unfolding opened-blocks empty
+      → (i : ℕ) → i ≡ size-at l → Put b c i (length vs) → Put c d 0 t → (bs : List ℕ) → bs ≡ blank (bodies-length l) → (d, bs) ≡ print l (opened l (start-of (plain vs t)))
+  unfolding opened-blocks opened
   opened-areas b c d e i ei p q bs eb =
       let n : length (started t vs) ≡ length vs = length-map vs (λ v. record { stamp = t; value = v } ∷ []) in
       let h : Holds l c (with-objects (started t vs) (empty l)) =
@@ -211,4 +212,4 @@ module _ (l : Limits) (s : Sane l) (vs : List ℤ) (few : length vs ≤ l .objec
       let k = put-timestamp l s c (with-objects (started t vs) (empty l)) h t word d q in
       let bodies : HoldsBodies l bs (with-timestamp t (with-objects (started t vs) (empty l))) = record { same = eb ∙ empty-bodies l .same; fits = k .fits } in
       holds-print l d bs (with-timestamp t (with-objects (started t vs) (empty l))) k bodies
-      ∙ ap (print l) (sym (opened-empty l vs t))
+      ∙ ap (print l) (sym (opened-empty l (length vs) vs t))

@@ -1,6 +1,8 @@
 // Opening: both lent areas are filled, whatever they held, with the replica of the start values and the start timestamp.
 use model::Limits;
 ghost use mathlib.Core.Path.{_≡_};
+ghost use Rattle.model.specs.Calls.{plain};
+ghost use Rattle.model.specs.Start.{start-of};
 ghost use Rattle.model.specs.Replica.{opened};
 ghost use Rattle.layout.specs.Layout.{print};
 ghost use Rattle.opening.specs.Opening.{Lent, Blank, Started};
@@ -10,7 +12,7 @@ fn put_objects(blocks: &mut [u8], readers: usize, values: &[i64], timestamp: u64
     requires { ⌜ Blank readers (now blocks) (now values) ⌝ }
     ensures { λ _. ⌜ Started readers timestamp (now (values .entry)) (now (blocks .exit)) ⌝ }
 {
-    let width = 3 + 2 * readers;
+    let width = versions::width(readers);
     let mut at = 0;
     let mut i = 0;
     while i < values.len() {
@@ -25,7 +27,7 @@ fn put_objects(blocks: &mut [u8], readers: usize, values: &[i64], timestamp: u64
 // One zero fill of each area, then the cells that are not 0.
 pub fn fill(records: &mut [u8], bodies: &mut [u8], l: Limits, values: &[i64], timestamp: u32)
     requires { ⌜ Lent l (now records) (now bodies) (now values) ⌝ }
-    ensures { λ _. ⌜ (now (records .exit), now (bodies .exit)) ≡ print l (opened l (now (values .entry)) timestamp) ⌝ }
+    ensures { λ _. ⌜ (now (records .exit), now (bodies .exit)) ≡ print l (opened l (start-of (plain (now (values .entry)) timestamp))) ⌝ }
 {
     let records_end = records.len();
     cells::fill_zero(records, 0, records_end);

@@ -11,31 +11,31 @@ use lib.ListN.{length, getD, List·getD-eq-default}
 use lib.Dec.{ltb, leb, eqb, leb·zero, leb·suc-zero, leb·suc-suc, eqb·suc-zero}
 use borrow.Author.Tests.{leb-true, leb-false, le-leb, lt-leb}
 use Rattle.words.specs.Words.{loaded}
-use Rattle.operation.specs.Body.{registerCount, longestSkip, mostDivisor, size, kindAt, firstAt, secondAt, rules, allowed, allowedAt, each, wellFormed}
+use Rattle.operation.specs.Body.{register-count, longest-skip, most-divisor, size, kind-byte, first-byte, second-byte, rules, allowed, allowed-at, each, is-well-formed}
 
 -- No limit may allow more operations than this: a skip that does not reach past the end is then at most 15 long.
-abbrev pub mostOperations : ℕ
-mostOperations = 16
+abbrev pub most-operations : ℕ
+most-operations = 16
 
-abbrev pub firstBelow : ℕ → ℕ
-firstBelow kind = getD (4 ∷ 4 ∷ 4 ∷ 4 ∷ 4 ∷ 4 ∷ 1 ∷ 4 ∷ []) kind 0
+abbrev pub first-bound : ℕ → ℕ
+first-bound kind = getD (4 ∷ 4 ∷ 4 ∷ 4 ∷ 4 ∷ 4 ∷ 1 ∷ 4 ∷ []) kind 0
 
-abbrev pub secondFrom : ℕ → ℕ
-secondFrom kind = getD (0 ∷ 0 ∷ 0 ∷ 0 ∷ 0 ∷ 1 ∷ 0 ∷ 0 ∷ []) kind 0
+abbrev pub least-second : ℕ → ℕ
+least-second kind = getD (0 ∷ 0 ∷ 0 ∷ 0 ∷ 0 ∷ 1 ∷ 0 ∷ 0 ∷ []) kind 0
 
-abbrev pub secondBelow : ℕ → ℕ → ℕ → ℕ
-secondBelow n m kind = getD (n ∷ n ∷ 1 ∷ 4 ∷ 4 ∷ m ∷ 1 ∷ 1 ∷ []) kind 0
+abbrev pub second-bound : ℕ → ℕ → ℕ → ℕ
+second-bound n m kind = getD (n ∷ n ∷ 1 ∷ 4 ∷ 4 ∷ m ∷ 1 ∷ 1 ∷ []) kind 0
 
-abbrev pub constantFrom : ℕ → ℕ
-constantFrom kind = getD (0 ∷ 0 ∷ 0 ∷ 0 ∷ 0 ∷ 0 ∷ 0 ∷ 1 ∷ []) kind 0
+abbrev pub least-constant : ℕ → ℕ
+least-constant kind = getD (0 ∷ 0 ∷ 0 ∷ 0 ∷ 0 ∷ 0 ∷ 0 ∷ 1 ∷ []) kind 0
 
-abbrev pub constantMost : ℕ → ℕ
-constantMost kind = getD (0 ∷ 0 ∷ 18446744073709551615 ∷ 0 ∷ 0 ∷ 0 ∷ 0 ∷ 1000000 ∷ []) kind 0
+abbrev pub most-constant : ℕ → ℕ
+most-constant kind = getD (0 ∷ 0 ∷ 18446744073709551615 ∷ 0 ∷ 0 ∷ 0 ∷ 0 ∷ 1000000 ∷ []) kind 0
 
 -- operation i of m
 unfoldable pub tested : ℕ → ℕ → ℕ → ℕ → ℕ → ℕ → ℕ → Bool
 tested n m i kind f s c =
-    ltb f (firstBelow kind) && leb (secondFrom kind) s && ltb (s + secondFrom kind * i) (secondBelow n m kind) && leb (constantFrom kind) c && leb c (constantMost kind)
+    ltb f (first-bound kind) && leb (least-second kind) s && ltb (s + least-second kind * i) (second-bound n m kind) && leb (least-constant kind) c && leb c (most-constant kind)
 
 -- two tests that hold of the same numbers
 same : (a b c d : ℕ) → (a ≤ b → c ≤ d) → (b < a → d < c) → leb a b ≡ leb c d
@@ -63,7 +63,7 @@ plain : (a : Bool) (x i s c : ℕ) → (a && leb 0 s && ltb (s + 0 * i) x && leb
 plain a x i s c = rw (second a x i s, leb·zero c, and-true (a && ltb s x), no-more c)
 
 -- where a skip may end
-reach : (m i s : ℕ) → i < m → m ≤ mostOperations → ltb (s + 1 * i) m ≡ (leb s 15 && leb s (m - (i + 1)))
+reach : (m i s : ℕ) → i < m → m ≤ most-operations → ltb (s + 1 * i) m ≡ (leb s 15 && leb s (m - (i + 1)))
 reach m i s h g =
     same (suc (s + 1 * i)) m s (m - (i + 1)) (λ l. omega arith) (λ l. omega arith) ∙ go (leb s (m - (i + 1))) refl
   where
@@ -72,9 +72,9 @@ reach m i s h g =
     go false e = sym (and-false (leb s 15))
 
 -- the columns say what the eight rules say
-module _ (n m i f s c : ℕ) (inside : i < m) (most : m ≤ mostOperations) (bits : c < 2 ^ 64) where
+module _ (n m i f s c : ℕ) (inside : i < m) (most : m ≤ most-operations) (bits : c < 2 ^ 64) where
   pub tested-allowed : (kind : ℕ) → kind < 8 → tested n m i kind f s c ≡ allowed n (m - (i + 1)) kind f s c
-  unfolding tested allowed registerCount longestSkip mostDivisor
+  unfolding tested allowed register-count longest-skip most-divisor
   tested-allowed zero k = plain (ltb f 4) n i s c
   tested-allowed (suc zero) k = plain (ltb f 4) n i s c
   tested-allowed (suc (suc zero)) k =
@@ -94,15 +94,15 @@ module _ (n m i f s c : ℕ) (inside : i < m) (most : m ≤ mostOperations) (bit
 
 -- the same of an operation's fields as they were read
 pub tested-at :
-    (b : List ℕ) (n m i kind f s c : ℕ) → m ≡ size b → kind ≡ kindAt b i → f ≡ firstAt b i → s ≡ secondAt b i → c ≡ loaded b (1 + 3 * m + 8 * i) → i < m → m ≤ mostOperations → c < 2 ^ 64 → kind < 8
-    → allowedAt n b i ≡ tested n m i kind f s c
+    (b : List ℕ) (n m i kind f s c : ℕ) → m ≡ size b → kind ≡ kind-byte b i → f ≡ first-byte b i → s ≡ second-byte b i → c ≡ loaded b (1 + 3 * m + 8 * i) → i < m → m ≤ most-operations → c < 2 ^ 64 → kind < 8
+    → allowed-at n b i ≡ tested n m i kind f s c
 tested-at b n m i kind f s c e p q r w inside most bits k =
     sym (tested-allowed n m i f s c inside most bits kind k ∙ rw (w, p, q, r, e))
 
 -- ---- what the check's loop needs
 
 -- a skip's 1, or 0, of i
-pub times : (kind i : ℕ) → secondFrom kind * i ≤ i
+pub times : (kind i : ℕ) → least-second kind * i ≤ i
 times zero i = omega arith
 times (suc zero) i = omega arith
 times (suc (suc zero)) i = omega arith
@@ -128,8 +128,8 @@ stops q i (suc m) h e =
     ⊎-elim (λ z. rw (← z, e, and-false (each q i))) (λ l. rw (stops q i m l e)) (eq-or-lt-of-le (le-of-suc-le-suc h))
 
 -- a body of no bytes
-pub nothing : (most n : ℕ) (b : List ℕ) → length b ≡ 0 → wellFormed most n b ≡ false
-unfolding wellFormed
+pub nothing : (most n : ℕ) (b : List ℕ) → length b ≡ 0 → is-well-formed most n b ≡ false
+unfolding is-well-formed
 nothing most n [] h = refl
 nothing most n (x ∷ b) h = absurd (some (length b) h)
   where

@@ -1,5 +1,5 @@
 pub mod Body
-pub mod Laws
+pub mod BodyLaws
 pub mod Columns
 pub mod Encode
-pub mod Examples
+pub mod BodyExamples

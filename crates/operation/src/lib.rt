@@ -1,8 +1,8 @@
 // The operations of a transaction's body (document 01, "A job's body"): their kinds, their rules, and one operation decoded from the bytes of a body.
 ghost use mathlib.Core.Path.{_≡_};
-ghost use Prim.Native.Nat.{_+_, _*_, _<_};
+ghost use Prim.Native.Nat.{_<_, _≤_};
 ghost use lib.ListN.{length};
-ghost use Rattle.operation.specs.Body.{size, operationAt};
+ghost use Rattle.operation.specs.Body.{size, operation-at, body-length};
 
 // A decoded operation: registers and objects by number, a constant only where the kind carries one.
 pub enum Operation {
@@ -29,10 +29,18 @@ pub fn small(x: u8) -> usize
     x as usize
 }
 
+// How many bytes a body of m operations has.
+pub fn body_length(m: usize) -> usize
+    requires { ⌜ m ≤ 65536 ⌝ }
+    ensures { λ r. ⌜ r ≡ body-length m ⌝ }
+{
+    1 + 11 * m
+}
+
 // Operation i of a body that was checked: no rule is tested again, and a constant is loaded only where the kind carries one.
 pub fn operation_at(body: &[u8], i: usize) -> Operation
-    requires { ⌜ (i < size (now body)) × (length (now body) ≡ 1 + 11 * size (now body)) ⌝ }
-    ensures { λ r. ⌜ r ≡ operationAt (now (body .entry)) i ⌝ }
+    requires { ⌜ (i < size (now body)) × (length (now body) ≡ body-length (size (now body))) ⌝ }
+    ensures { λ r. ⌜ r ≡ operation-at (now (body .entry)) i ⌝ }
 {
     let m = small(body[0]);
     let kind = small(body[1 + 3 * i]);

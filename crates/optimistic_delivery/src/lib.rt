@@ -1,18 +1,16 @@
 // Optimistic delivery: the refusals, and a transaction appended to the pending ones.
+use layout::key_cell;
 use model::Limits;
 use model::Reply;
 use operation::Decoded;
-use queue::key_cell;
 ghost use mathlib.Core.Path.{_≡_};
 ghost use mathlib.Core.Bool.{true};
-ghost use Prim.Native.Nat.{_≤_, _<_};
-ghost use Rattle.operation.specs.Columns.{mostOperations};
 ghost use Rattle.model.specs.Calls.{optimistic};
 ghost use Rattle.model.specs.Answers.{reply};
 ghost use Rattle.layout.specs.Offsets.{Sane};
 ghost use Rattle.layout.specs.Fit.{fit};
-ghost use Rattle.layout.specs.Act.{act};
-ghost use Rattle.queue.specs.Delivered.{Room, Appended};
+ghost use Rattle.layout.specs.Contract.{Supported, Met};
+ghost use Rattle.optimistic_delivery.specs.Delivered.{Room, Appended};
 
 // Puts a transaction at its start into the first unused place: its key, the count and its body. All else of an unused place is 0 already.
 fn append(records: &mut [u8], bodies: &mut [u8], l: Limits, count: usize, key: u64, body: &[u8])
@@ -37,24 +35,25 @@ pub fn deliver_optimistic(
     sequence: u32,
     body: &[u8],
 ) -> Reply
-    requires { ⌜ (Sane l) × (l .operations ≤ mostOperations) ⌝ }
+    requires { ⌜ Supported l ⌝ }
     requires { ⌜ fit l (now records, now bodies) ≡ true ⌝ }
-    ensures { λ r. ⌜ reply r ≡ act l (optimistic client sequence (now (body .entry))) (now (records .entry), now (bodies .entry)) .0 ⌝ }
-    ensures { λ _. ⌜ (now (records .exit), now (bodies .exit)) ≡ act l (optimistic client sequence (now (body .entry))) (now (records .entry), now (bodies .entry)) .1 ⌝ }
+    ensures { λ r. ⌜ Met l (optimistic client sequence (now (body .entry))) (now (records .entry), now (bodies .entry))
+        (reply r) (now (records .exit), now (bodies .exit)) ⌝ }
 {
-    if queue::CLIENTS <= client {
+    if model::CLIENTS <= client {
         return Reply::Refused(3);
     }
-    if sequence as u64 <= cells::get(records, layout::last_at(l, client as usize)) {
+    if queue::is_spent(records, l, client, sequence) {
         return Reply::Refused(4);
     }
     let place = queue::locate(records, l, client, sequence);
     let count = place.count;
-    if place.position < count {
+    let position = place.position;
+    if (position.0 as usize) < count {
         return Reply::Refused(5);
     }
     let objects = cells::get(records, layout::size_at(l)) as usize;
-    let Decoded::WellFormed(_) = decoder::decode(body, l.operations, objects) else {
+    let Decoded::WellFormed(_) = operation_decoder::decode(body, l.operations, objects) else {
         return Reply::Refused(6);
     };
     if l.pending <= count {

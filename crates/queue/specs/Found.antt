@@ -3,11 +3,12 @@ use mathlib.Core.Path.{_≡_, refl, sym, ap, _∙_}
 use mathlib.Core.Bool.{Bool, true, false, not}
 use mathlib.Core.Option.{Option, none}
 use mathlib.Core.List.{List, [], _∷_, map}
-use Prim.Native.Nat.{ℕ, _+_, _*_, _≤_, _<_}
+use Prim.Native.Nat.{ℕ, _≤_, _<_}
 use native.Mathlib.Omega.{arith}
 use lib.Dec.{leb, ltb}
 use lib.ListN.{length, getD}
 use borrow.Author.Tests.{leb-true, leb-false, ltb-true, ltb-false, lt-ltb, le-ltb, le-leb, lt-leb}
+use Rattle.operation.specs.Body.{body-length}
 use Rattle.model.specs.declared.Limits.{Limits}
 use Rattle.model.specs.Lists.{any, pick, index}
 use Rattle.model.specs.Calls.{clients, find, show-body, Answer, refused, found, body, is-key, first-cause, causes, refusal, shown}
@@ -59,10 +60,10 @@ module _ (l : Limits) (a : Areas) (fine : fit l a ≡ true) (c s : ℕ) where
       ∙ ap (λ (x : Option Pending). found position (length (pending-of x .sent .bytes))) (pick-index (has-key c s) nothing all-pending k))
 
   -- in the code's numbers: the first byte of a body says its length
-  pub find-found : Sane l → HoldsBodies l (a .1) (parse l a) → c < clients → (i at : ℕ) → i ≡ position → i < length all-pending → at ≡ body-at l i → found i (1 + 11 * getD (a .1) at 0) ≡ act l (find c s) a .0
+  pub find-found : Sane l → HoldsBodies l (a .1) (parse l a) → c < clients → (i at : ℕ) → i ≡ position → i < length all-pending → at ≡ body-at l i → found i (body-length (getD (a .1) at 0)) ≡ act l (find c s) a .0
   find-found o h k i at e low f =
-      let m : length (body-of (getD all-pending i nothing)) ≡ 1 + 11 * getD (a .1) at 0 =
-      body-span l o (a .1) (parse l a) h i low nothing ∙ ap (λ (x : ℕ). 1 + 11 * x) (sym (ap (λ (x : ℕ). getD (a .1) x 0) f ∙ body-size l o (a .1) (parse l a) h i low nothing)) in
+      let m : length (body-of (getD all-pending i nothing)) ≡ body-length (getD (a .1) at 0) =
+      body-span l o (a .1) (parse l a) h i low nothing ∙ ap body-length (sym (ap (λ (x : ℕ). getD (a .1) x 0) f ∙ body-size l o (a .1) (parse l a) h i low nothing)) in
       ap (found i) (sym m)
       ∙ ap (λ (x : ℕ). found x (length (body-of (getD all-pending x nothing)))) e
       ∙ find-0 k (omega arith)

@@ -1,9 +1,9 @@
 -- Where a transaction stands among the pending ones of a record area, and how many there are. Assumes nothing.
 use mathlib.Core.Path.{_≡_, refl, sym, ap, ap₂, _∙_}
-use mathlib.Core.Bool.{Bool, true, false, _&&_}
+use mathlib.Core.Bool.{Bool, true, false, cond, _&&_}
 use mathlib.Core.Option.{none}
-use mathlib.Core.List.{List, map}
-use Prim.Native.Nat.{ℕ, _+_, _-_, _*_, _^_, _≤_, _<_}
+use mathlib.Core.List.{List, [], _∷_, map}
+use Prim.Native.Nat.{ℕ, suc, _+_, _-_, _*_, _^_, _≤_, _<_}
 use native.Mathlib.Omega.{arith}
 use native.Mathlib.Nat.{mul-le-mul-right}
 use lib.Dec.{eqb}
@@ -11,9 +11,10 @@ use lib.ListN.{length, take, drop, getD, length-map, length-drop}
 use lib.Seq.{take-all, getD-drop, ext-getD, length-take-le}
 use borrow.Author.Tests.{eq-eqb, ne-eqb, eqb-true, eqb-false}
 use Rattle.cells.specs.Cells.{cells}
-use Rattle.cells.specs.Laws.{cells-drop}
+use Rattle.cells.specs.CellLaws.{cells-drop}
 use Rattle.model.specs.declared.Limits.{Limits}
 use Rattle.model.specs.Lists.{index}
+use Rattle.model.specs.Calls.{spent}
 use Rattle.model.specs.Replica.{Pending, Replica, has-key, pending-of}
 use Rattle.model.specs.ListLaws.{index-map, all-map, all-implies, index-same, getD-map-in}
 use Rattle.layout.specs.Layout.{of-key, row-of}
@@ -22,12 +23,25 @@ use Rattle.layout.specs.Printable.{RowFits, few-pending}
 use Rattle.layout.specs.Holds.{Holds, holds-long}
 use Rattle.layout.specs.Reading.{get-row}
 use Rattle.queue.specs.declared.Place.{Place}
-use Rattle.queue.specs.Keys.{keys, length-keys, getD-keys}
+use Rattle.queue.specs.RowKeys.{keys, length-keys, getD-keys}
 
 -- what `locate` ensures, of whichever replica the record area holds
 pub record Located (l : Limits) (b : List ℕ) (c s : ℕ) (r : Place) : Type 0 where
-  pub position : (u : Replica) → Holds l b u → r .position ≡ index (has-key c s) (u .pending)
+  pub position : (u : Replica) → Holds l b u → r .position .0 ≡ index (has-key c s) (u .pending)
   pub count : (u : Replica) → Holds l b u → r .count ≡ length (u .pending)
+
+-- the first that passes stands among them, or behind the last
+pub index-most : (q : Pending → Bool) (js : List Pending) → index q js ≤ length js
+index-most q [] = omega arith
+index-most q (j ∷ js) = by (q j) (index-most q js)
+  where
+    by : (x : Bool) → index q js ≤ length js → cond x 0 (suc (index q js)) ≤ suc (length js)
+    by true h = omega arith
+    by false h = omega arith
+
+-- what `is_spent` ensures, of whichever replica the record area holds
+pub record Spent (l : Limits) (b : List ℕ) (c s : ℕ) (r : Bool) : Type 0 where
+  pub test : (u : Replica) → Holds l b u → r ≡ spent (u .lasts) c s
 
 -- two keys are one cell exactly where both parts are equal
 same-key : (c s c′ s′ : ℕ) → s < 2 ^ 32 → s′ < 2 ^ 32 → eqb (of-key (c, s)) (of-key (c′, s′)) ≡ (eqb c′ c && eqb s′ s)

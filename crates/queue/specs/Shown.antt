@@ -8,7 +8,7 @@ use native.Mathlib.Nat.{add-zero, add-comm}
 use lib.ListN.{length, take, drop, getD, length-map, List·getD-map}
 use denote.Ref.{RefT, now, ptr}
 use Rattle.model.specs.declared.Limits.{Limits}
-use Rattle.model.specs.Calls.{find, show-body, Answer, refused, done, executed, committed, value, found, body}
+use Rattle.model.specs.Calls.{find, show-body, Observation, Yield, Answer, refused, yielded, found, body}
 use Rattle.model.specs.ListLaws.{all-in}
 use Rattle.layout.specs.Layout.{body-of, Areas, parse}
 use Rattle.layout.specs.Offsets.{Sane, body-width, body-at}
@@ -22,13 +22,13 @@ use Rattle.queue.specs.Found.{nothing, Shows, show-refused, show-found}
 
 -- where in the body area the body that Find answers for begins, and how long it is
 abbrev pub part : Limits → Answer → ℕ × ℕ
-part l (found i n) = (body-at l i, n)
 part l (refused k) = (0, 0)
-part l done = (0, 0)
-part l (executed n f) = (0, 0)
-part l (committed o v t n) = (0, 0)
-part l (value v) = (0, 0)
-part l (body b) = (0, 0)
+part l (yielded Yield.done) = (0, 0)
+part l (yielded (Yield.executed n f)) = (0, 0)
+part l (yielded (Yield.committed r)) = (0, 0)
+part l (yielded (Yield.observed (Observation.value v))) = (0, 0)
+part l (yielded (Yield.observed (Observation.found i n))) = (body-at l i, n)
+part l (yielded (Yield.observed (Observation.body b))) = (0, 0)
 
 abbrev pub part-of : Limits → Areas → ℕ → ℕ → ℕ × ℕ
 part-of l a c s = part l (act l (find c s) a .0)

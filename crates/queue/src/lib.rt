@@ -9,19 +9,15 @@ ghost use lib.Dec.{eqb};
 ghost use lib.ListN.{length};
 ghost use Rattle.cells.specs.Cells.{cells};
 ghost use Rattle.model.specs.Lists.{index};
-ghost use Rattle.model.specs.Calls.{find as find-call};
+ghost use Rattle.model.specs.Calls.{clients, find as find-call};
 ghost use Rattle.model.specs.Answers.{finding};
-ghost use Rattle.layout.specs.Layout.{of-key};
 ghost use Rattle.layout.specs.Offsets.{Sane};
 ghost use Rattle.layout.specs.Holds.{Held};
 ghost use Rattle.layout.specs.Fit.{fit};
-ghost use Rattle.layout.specs.Act.{act};
-ghost use Rattle.queue.specs.Keys.{keys};
-ghost use Rattle.queue.specs.Place.{Located};
+ghost use Rattle.layout.specs.Contract.{Supported, Met};
+ghost use Rattle.queue.specs.RowKeys.{keys};
+ghost use Rattle.queue.specs.Place.{Located, Spent};
 ghost use Rattle.queue.specs.Shown.{Shown};
-
-// A client is 0 to 15.
-pub const CLIENTS: u32 = 16;
 
 // The position of the first of so many rows, of this many cells each, whose first cell is the key; the number of rows where there is none.
 pub fn key_index(rows: &[u8], width: usize, count: usize, key: u64) -> usize
@@ -42,15 +38,17 @@ pub fn key_index(rows: &[u8], width: usize, count: usize, key: u64) -> usize
 
 // Where a transaction stands among the pending ones, in optimistic order (their number where it is not among them), and their number.
 pub struct Place {
-    pub position: usize,
+    pub position: OptimisticPosition,
     pub count: usize,
 }
 
-// A transaction's key as its row has it.
-pub fn key_cell(client: u32, sequence: u32) -> u64
-    ensures { λ r. ⌜ r ≡ of-key (client, sequence) ⌝ }
+// Whether a client's key is spent: its sequence number is not above the client's last number.
+pub fn is_spent(records: &[u8], l: Limits, client: u32, sequence: u32) -> bool
+    requires { ⌜ Sane l × (client < clients) ⌝ }
+    requires { ⌜ Held l (now records) ⌝ }
+    ensures { λ r. ⌜ Spent l (now (records .entry)) client sequence r ⌝ }
 {
-    client as u64 * 0x1_0000_0000 + sequence as u64
+    sequence as u64 <= cells::get(records, layout::last_at(l, client as usize))
 }
 
 // Looks a transaction up among the pending ones.
@@ -61,28 +59,33 @@ pub fn locate(records: &[u8], l: Limits, client: u32, sequence: u32) -> Place
 {
     let count = cells::get(records, layout::pending_at(l)) as usize;
     let at = layout::row_at(l, 0) * 8;
-    let key = key_cell(client, sequence);
-    let position = key_index(&records[at..], layout::row_width(l), count, key);
-    Place { position, count }
+    let key = layout::key_cell(client, sequence);
+    let i = key_index(&records[at..], layout::row_width(l), count, key);
+    Place {
+        position: OptimisticPosition(i as u32),
+        count,
+    }
 }
 
 // Find: the optimistic position of a pending transaction and the length of its body.
 pub fn find(records: &[u8], bodies: &[u8], l: Limits, client: u32, sequence: u32) -> Finding
-    requires { ⌜ Sane l ⌝ }
+    requires { ⌜ Supported l ⌝ }
     requires { ⌜ fit l (now records, now bodies) ≡ true ⌝ }
-    ensures { λ r. ⌜ finding r ≡ act l (find-call client sequence) (now (records .entry), now (bodies .entry)) .0 ⌝ }
+    ensures { λ r. ⌜ Met l (find-call client sequence) (now (records .entry), now (bodies .entry))
+        (finding r) (now (records .entry), now (bodies .entry)) ⌝ }
 {
-    if CLIENTS <= client {
+    if model::CLIENTS <= client {
         return Finding::Refused(3);
     }
     let place = locate(records, l, client, sequence);
-    let i = place.position;
+    let position = place.position;
+    let i = position.0 as usize;
     if place.count <= i {
         return Finding::Refused(8);
     }
     let at = layout::body_at(l, i);
-    let operations = bodies[at] as u32;
-    Finding::Found(OptimisticPosition(i as u32), 1 + 11 * operations)
+    let length = operation::body_length(operation::small(bodies[at]));
+    Finding::Found(position, length as u32)
 }
 
 // Show body: the part of the body area that is a pending transaction's body; the empty part where Find refuses.
@@ -93,7 +96,7 @@ pub fn show_body<'a>(
     client: u32,
     sequence: u32,
 ) -> &'a [u8]
-    requires { ⌜ Sane l ⌝ }
+    requires { ⌜ Supported l ⌝ }
     requires { ⌜ fit l (now records, now bodies) ≡ true ⌝ }
     ensures { λ r. ⌜ Shown l (now (records .entry)) (bodies .entry) r client sequence ⌝ }
 {

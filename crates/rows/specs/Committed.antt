@@ -11,7 +11,7 @@ use mir.Val.{toZ}
 use mir.Facts.{toZ-ofZ}
 use Rattle.cells.specs.Cells.{cells}
 use Rattle.operation.specs.Body.{listed}
-use Rattle.execution.specs.Run.{Table, tableOf}
+use Rattle.execution.specs.Run.{Table, table-of}
 use Rattle.model.specs.declared.Limits.{Limits}
 use Rattle.model.specs.Serial.{Version, no-version}
 use Rattle.model.specs.Replica.{Replica, newest, table}
@@ -52,12 +52,12 @@ abbrev pub committed : Replica → List ℤ
 committed u = map (λ (vs : List Version). newest vs .value) (u .objects)
 
 module _ (l : Limits) (s : Sane l) (b : List ℕ) (u : Replica) (h : Holds l b u) (some-version : All (λ (vs : List Version). 0 < length vs) (u .objects)) where
-  value-back : (i : ℕ) → i < length (u .objects) → value-in l (cells b) i ≡ newest (getD (u .objects) i []) .value
+  pub value-back : (i : ℕ) → i < length (u .objects) → value-in l (cells b) i ≡ newest (getD (u .objects) i []) .value
   value-back i k =
       let vs = getD (u .objects) i [] in
       let g = all-in (ObjectFits (l .readers)) (u .objects) i [] (h .fits .objects .1) k in
       let some = all-in (λ (vs : List Version). 0 < length vs) (u .objects) i [] some-version k in
-      ap (toZ w64) (get-object l s b u h i k 2 (omega arith) ∙ block-value l vs g 0 some no-version)
+      ap (toZ w64) (get-object l s b u h i k 2 (omega arith) ∙ block-value l vs 0 some no-version)
       ∙ toZ-ofZ (all-in VersionFits vs 0 no-version (g .1) some .1)
       ∙ first vs some
     where
@@ -80,7 +80,7 @@ module _ (l : Limits) (s : Sane l) (b : List ℕ) (u : Replica) (h : Holds l b u
       all-of (x ∷ xs) = ap (newest x .value ∷_) (all-of xs)
 
 -- the list is the model's table
-pub committed-table : (u : Replica) → tableOf (committed u) ≡ table (u .objects)
+pub committed-table : (u : Replica) → table-of (committed u) ≡ table (u .objects)
 committed-table u = ap looking (fun-ext (λ o. List·getD-map (λ (vs : List Version). newest vs .value) (u .objects) o []))
   where
     looking : (ℕ → ℤ) → Table

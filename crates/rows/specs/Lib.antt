@@ -3,5 +3,4 @@ pub mod RowRun
 pub mod Listed
 pub mod Loading
 pub mod Storing
-pub mod Ended
 pub mod Committed

@@ -1,6 +1,6 @@
 -- Reading a row: what the code's stores into arrays come to, and that a row which holds a run is read as that run. Assumes nothing.
 use mathlib.Core.Path.{_≡_, sym, ap, ap₂, _∙_}
-use mathlib.Core.List.{List, [], _∷_, _++_}
+use mathlib.Core.List.{List, _++_}
 use Prim.Native.Nat.{ℕ, _+_, _-_, _*_, _^_, _≤_, _<_}
 use native.Mathlib.Omega.{arith}
 use lib.IntN.{ℤ, pos}
@@ -11,37 +11,26 @@ use mir.Syntax.{w64}
 use mir.Val.{toZ}
 use mir.Facts.{toZ-ofZ}
 use Rattle.cells.specs.Cells.{cells, uncells}
-use Rattle.cells.specs.Laws.{cells-uncells}
+use Rattle.cells.specs.CellLaws.{cells-uncells}
 use Rattle.cells.specs.Uncells.{length-uncells}
-use Rattle.operation.specs.Body.{registerCount, listed}
-use Rattle.operation.specs.Laws.{length-listed}
+use Rattle.operation.specs.Body.{register-count, listed}
+use Rattle.operation.specs.BodyLaws.{length-listed}
 use Rattle.execution.specs.declared.Counts.{Counts}
 use Rattle.execution.specs.Entries.{Entry, entry}
 use Rattle.execution.specs.Run.{register}
-use Rattle.execution.specs.Arrays.{capacity, entries, Room}
-use Rattle.execution.specs.Places.{room-set}
+use Rattle.execution.specs.Arrays.{capacity, entries, Room, room-set}
 use Rattle.model.specs.ListLaws.{All, all-join, all-in}
 use Rattle.layout.specs.Layout.{Row, row}
-use Rattle.layout.specs.Offsets.{counter-at, outcome-at, register-at, reads-at, entries-at}
+use Rattle.layout.specs.Offsets.{counter-at, outcome-at, reads-at, entries-at, entry-at}
 use Rattle.layout.specs.Lawful.{all-below}
 use Rattle.layout.specs.Printable.{ValueFits, EntryFits, RowFits, lawful-row}
 use Rattle.layout.specs.RowCells.{row-register, row-reads, row-entries, row-object, row-value}
-use Rattle.rows.specs.RowRun.{entry-in, entries-in, registers-in, run-in, Readable, Loaded}
+use Rattle.rows.specs.RowRun.{entry-in, entries-in, register-in, registers-in, run-in, Readable, Loaded}
 use Rattle.rows.specs.Listed.{listed-same, listed-of, entries-same, fill-next}
 
 -- ---- the code's stores
 
 module _ (cs : List ℕ) where
-  pub load-four : (g : List ℤ) → length g ≡ registerCount → (x y z w : ℤ) → x ≡ toZ w64 (getD cs 3 0) → y ≡ toZ w64 (getD cs 4 0) → z ≡ toZ w64 (getD cs 5 0) → w ≡ toZ w64 (getD cs 6 0)
-      → set (set (set (set g 0 x) 1 y) 2 z) 3 w ≡ registers-in cs
-  unfolding registers-in listed registerCount
-  load-four (p ∷ q ∷ r ∷ s ∷ []) n x y z w a b c d = rw (a, b, c, d)
-  load-four [] n x y z w a b c d = absurd (omega arith)
-  load-four (p ∷ []) n x y z w a b c d = absurd (omega arith)
-  load-four (p ∷ q ∷ []) n x y z w a b c d = absurd (omega arith)
-  load-four (p ∷ q ∷ r ∷ []) n x y z w a b c d = absurd (omega arith)
-  load-four (p ∷ q ∷ r ∷ s ∷ t ∷ g) n x y z w a b c d = absurd (omega arith)
-
   -- the first i entries from entry `from` on stand in two arrays
   pub record Filling (from i : ℕ) (os : List ℕ) (vs : List ℤ) : Type 0 where
     pub room : Room os vs
@@ -53,7 +42,8 @@ module _ (cs : List ℕ) where
     filling-none r =
         record { room = r; objects = below-none (λ k. getD os k 0 ≡ entry-in cs (from + k) .object); values = below-none (λ k. getD vs k (pos 0) ≡ entry-in cs (from + k) .value) }
 
-    pub filling-next : (i o : ℕ) (v : ℤ) → i < capacity → Filling from i os vs → o ≡ entry-in cs (from + i) .object → v ≡ entry-in cs (from + i) .value → Filling from (i + 1) (set os i o) (set vs i v)
+    pub filling-next : (i o : ℕ) (v : ℤ) → i < capacity → Filling from i os vs → o ≡ entry-in cs (from + i) .object → v ≡ entry-in cs (from + i) .value
+        → Filling from (i + 1) (set os i o) (set vs i v)
     filling-next i o v h f a b =
         let n = f .room .objects in
         let m = f .room .values in
@@ -78,18 +68,18 @@ loaded cs t g ro rv wo wv a b n w r x y rr ww =
     let q = y ∙ ap₂ (entries-in cs) n w in
     record {
       run = λ i. record { counter = a i; outcome = b i; registers = r i; reads = p i; writes = q i };
-      registers = ap length r ∙ length-listed (λ k. toZ w64 (getD cs (register-at k) 0)) registerCount;
+      registers = ap length r ∙ length-listed (register-in cs) register-count;
       read-room = rr;
       write-room = ww;
     }
 
 -- ---- a row that holds a run
 
-row-size : (m : ℕ) → row m .size ≡ 9 + 2 * m
-unfolding registerCount
+row-size : (m : ℕ) → row m .size ≡ entry-at m
+unfolding register-count
 row-size m = omega arith
 
-long-enough : (cs : List ℕ) (m n : ℕ) → length cs ≡ 9 + 2 * m → n ≤ m → (9 + 2 * n) * 8 ≤ length (uncells cs)
+long-enough : (cs : List ℕ) (m n : ℕ) → length cs ≡ entry-at m → n ≤ m → entry-at n * 8 ≤ length (uncells cs)
 long-enough cs m n e h = omega (arith, length-uncells cs)
 
 none : Entry
@@ -116,7 +106,7 @@ module _ (m : ℕ) (r : Row) (g : RowFits m r) where
   unfolding registers-in
   registers-back =
       let n = g .1 .1 .1 .0 .0 in
-      listed-same (λ k. toZ w64 (getD cs (register-at k) 0)) (register (r .1 .registers)) registerCount
+      listed-same (register-in cs) (register (r .1 .registers)) register-count
       (λ k h. ap (toZ w64) (row-register m r g k h) ∙ toZ-ofZ (all-in ValueFits (r .1 .registers) k (pos 0) (g .1 .1 .1 .0 .1) (omega arith)))
       ∙ ap (listed (register (r .1 .registers))) (sym n) ∙ listed-of (r .1 .registers) (pos 0)
 
@@ -147,7 +137,7 @@ module _ (m : ℕ) (r : Row) (g : RowFits m r) where
       λ i. record { counter = r .1 .counter; outcome = r .1 .outcome; registers = a i; reads = b i; writes = c i }
 
   module _ (room : m < 2 ^ 64) where
-    pub row-length : length (row m .enc r) ≡ 9 + 2 * m
+    pub row-length : length (row m .enc r) ≡ entry-at m
     row-length = lawful-row m room .len r g ∙ row-size m
 
     pub row-back : cells (uncells (row m .enc r)) ≡ row m .enc r

@@ -1,18 +1,18 @@
--- What the cells of one row say of its run, and what the code asks of a row. A row: key, program counter, outcome, registers, number of reads,
--- number of reads and writes, entries. Assumes nothing.
+-- What the cells of one row say of its run, and what the code asks of a row and leaves in it. A row: key, program counter, outcome, registers, number
+-- of reads, number of reads and writes, entries. Assumes nothing.
 use mathlib.Core.Path.{_≡_}
-use mathlib.Core.List.{List, _∷_, _++_, map}
+use mathlib.Core.List.{List, [], _∷_, _++_, map}
 use Prim.Native.Nat.{ℕ, _+_, _-_, _*_, _≤_}
 use lib.IntN.{ℤ}
-use lib.ListN.{length, getD, set, take, drop}
+use lib.ListN.{length, getD, take, drop}
 use mir.Syntax.{w64}
 use mir.Val.{toZ, ofZ}
 use Rattle.cells.specs.Cells.{cells, uncells}
-use Rattle.operation.specs.Body.{registerCount, listed}
+use Rattle.operation.specs.Body.{register-count, listed}
 use Rattle.execution.specs.declared.Counts.{Counts}
 use Rattle.execution.specs.Entries.{Entry, entry}
-use Rattle.execution.specs.Run.{Run, register}
-use Rattle.execution.specs.Arrays.{capacity, runOf, Room}
+use Rattle.execution.specs.Run.{Run}
+use Rattle.execution.specs.Arrays.{capacity, run-held, Room}
 use Rattle.layout.specs.Rows.{flat}
 use Rattle.layout.specs.Layout.{run, entry as entry-codec}
 use Rattle.layout.specs.Offsets.{counter-at, outcome-at, register-at, reads-at, entries-at, entry-at}
@@ -24,8 +24,11 @@ entry-in cs i = entry (getD cs (entry-at i) 0) (toZ w64 (getD cs (entry-at i + 1
 unfoldable pub entries-in : List ℕ → ℕ → ℕ → List Entry
 entries-in cs from n = listed (λ i. entry-in cs (from + i)) n
 
+abbrev pub register-in : List ℕ → ℕ → ℤ
+register-in cs r = toZ w64 (getD cs (register-at r) 0)
+
 unfoldable pub registers-in : List ℕ → List ℤ
-registers-in cs = listed (λ r. toZ w64 (getD cs (register-at r) 0)) registerCount
+registers-in cs = listed (register-in cs) register-count
 
 -- the run of a row
 abbrev pub run-in : List ℕ → Run
@@ -42,29 +45,35 @@ run-in cs =
 pub record Readable (bs : List ℕ) : Type 0 where
   pub reads : getD (cells bs) reads-at 0 ≤ getD (cells bs) entries-at 0
   pub few : getD (cells bs) entries-at 0 ≤ capacity
-  pub long : (9 + 2 * getD (cells bs) entries-at 0) * 8 ≤ length bs
+  pub long : entry-at (getD (cells bs) entries-at 0) * 8 ≤ length bs
 
 -- the run of a row stands in these counts and arrays
 pub record Loaded (cs : List ℕ) (t : Counts) (g : List ℤ) (ro : List ℕ) (rv : List ℤ) (wo : List ℕ) (wv : List ℤ) : Type 0 where
-  pub run : runOf t g ro rv wo wv ≡ run-in cs
-  pub registers : length g ≡ registerCount
+  pub run : run-held t g ro rv wo wv ≡ run-in cs
+  pub registers : length g ≡ register-count
   pub read-room : Room ro rv
   pub write-room : Room wo wv
 
 -- ---- and back
 
--- the four registers stored
-abbrev pub registers-set : List ℕ → List ℤ → List ℕ
-registers-set cs g = set (set (set (set cs 3 (ofZ w64 (register g 0))) 4 (ofZ w64 (register g 1))) 5 (ofZ w64 (register g 2))) 6 (ofZ w64 (register g 3))
+-- of the cells cs the first are stored anew, so that they are ds
+pub record Behind (cs stored ds : List ℕ) : Type 0 where
+  pub same : ds ≡ stored ++ drop (length stored) cs
 
--- all that stands before the entries, but the key
-abbrev pub fronted : Counts → List ℤ → List ℕ → List ℕ
-fronted t g cs = take 1 cs ++ (t .counter ∷ t .outcome ∷ (map (ofZ w64) g ++ (t .reads ∷ (t .reads + t .writes) ∷ drop 9 cs)))
+-- the key as it is, and all else that stands before the entries
+abbrev pub front : Counts → List ℤ → List ℕ → List ℕ
+front t g cs = take 1 cs ++ (t .counter ∷ t .outcome ∷ (map (ofZ w64) g ++ (t .reads ∷ (t .reads + t .writes) ∷ [])))
 
 -- the cells of entries
 unfoldable pub entry-cells : List Entry → List ℕ
 entry-cells es = flat (map (entry-codec .enc) es)
 
--- the row ys: its key as it was, and the run in these counts and arrays
+-- the row xs has room for the run in these counts
+pub record Storable (t : Counts) (g : List ℤ) (xs : List ℕ) : Type 0 where
+  pub few : t .reads + t .writes ≤ capacity
+  pub long : entry-at (t .reads + t .writes) * 8 ≤ length xs
+  pub registers : length g ≡ register-count
+
+-- the row ys: its key as it was in xs, and the run in these counts and arrays
 pub record Stored (t : Counts) (g : List ℤ) (ro : List ℕ) (rv : List ℤ) (wo : List ℕ) (wv : List ℤ) (xs ys : List ℕ) : Type 0 where
-  pub whole : (m : ℕ) → length xs ≡ (9 + 2 * m) * 8 → ys ≡ take 8 xs ++ uncells (run m .enc (runOf t g ro rv wo wv))
+  pub whole : (m : ℕ) → length xs ≡ entry-at m * 8 → ys ≡ take 8 xs ++ uncells (run m .enc (run-held t g ro rv wo wv))

@@ -9,15 +9,15 @@ use lib.Dec.{eqb, leb, ltb}
 use lib.ListN.{take, drop, getD}
 use lib.Seq.{getD-take}
 use borrow.Author.Tests.{not-true, lt-leb, leb-false, eq-eqb, eqb-true, ltb-true, lt-ltb}
-use Rattle.execution.specs.Agreement.{both}
+use Rattle.execution.specs.ReadAgreement.{both}
 use Rattle.execution.specs.Entries.{lookup}
-use Rattle.execution.specs.Shape.{is-some, distinct, every}
+use Rattle.execution.specs.RunShape.{is-some, distinct, every}
 use Rattle.model.specs.Lists.{any}
 use Rattle.model.specs.Calls.{clients}
 use Rattle.model.specs.ShapeCheck.{names-shaped, key-unspent}
 use Rattle.layout.specs.Rows.{chunks}
 use Rattle.layout.specs.Layout.{entry, key-of}
-use Rattle.row_shape.specs.Scan.{absent, names-in, key-in}
+use Rattle.shape_row.specs.RowScan.{absent, names-in, key-in}
 
 -- two tests, each of which holds where the other does
 pub same : (a b : Bool) → (a ≡ true → b ≡ true) → (b ≡ true → a ≡ true) → a ≡ b

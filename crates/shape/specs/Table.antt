@@ -10,9 +10,9 @@ use lib.ListN.{length, take, drop, getD, length-drop}
 use lib.Seq.{getD-take, length-take-le}
 use borrow.Author.Tests.{eq-eqb, eqb-true, ltb-true}
 use Rattle.cells.specs.Zeros.{zeros}
-use Rattle.operation.specs.Body.{size, wellFormed}
-use Rattle.operation.specs.Laws.{formed}
-use Rattle.execution.specs.Agreement.{both}
+use Rattle.operation.specs.Body.{size, body-length, is-well-formed}
+use Rattle.operation.specs.BodyLaws.{formed}
+use Rattle.execution.specs.ReadAgreement.{both}
 use Rattle.execution.specs.Run.{Run}
 use Rattle.model.specs.Lists.{any, all}
 use Rattle.model.specs.Calls.{Transaction, is-key}
@@ -23,10 +23,10 @@ use Rattle.model.specs.Shape.{distinct-keys, size-of}
 use Rattle.model.specs.ShapeRuns.{finished-numbers}
 use Rattle.model.specs.ShapeCheck.{key-unspent, at-start, at-start-says, names-shaped, run-shaped, in-order}
 use Rattle.layout.specs.Rows.{chunks}
-use Rattle.layout.specs.Layout.{key-of, row, body, body-length, pending-from, all-from}
+use Rattle.layout.specs.Layout.{key-of, row, body, pending-from, all-from}
 use Rattle.layout.specs.UncheckedRows.{dec-key, dec-counter, dec-outcome}
-use Rattle.row_shape.specs.Scan.{absent, key-in, body-end, body-in, run-in, row-in, cells-of, place-of}
-use Rattle.shape.specs.Scan.{next-in, finished-in, rows-in}
+use Rattle.shape_row.specs.RowScan.{counter-in, outcome-in, absent, key-in, body-end, body-in, run-in, row-in, cells-of, place-of}
+use Rattle.shape.specs.AreaScan.{next-in, finished-in, rows-in}
 use Rattle.shape.specs.Leaves.{same, key-same, key-is}
 use Rattle.shape.specs.Runs.{row-size, run-is}
 
@@ -39,11 +39,11 @@ last-first true false true = refl
 last-first true false false = refl
 last-first false b c = refl
 
-pub body-is : (most n : ℕ) (y : List ℕ) → length y ≡ place-of most → body-in most n y ≡ body most .ok y && wellFormed most n (body most .dec y)
+pub body-is : (most n : ℕ) (y : List ℕ) → length y ≡ place-of most → body-in most n y ≡ body most .ok y && is-well-formed most n (body most .dec y)
 unfolding body-in
 body-is most n y e =
-    ap (λ (k : ℕ). leb (body-end y) k && (wellFormed most n (take (body-end y) y) && zeros (drop (body-end y) y))) e
-    ∙ last-first (leb (body-end y) (place-of most)) (wellFormed most n (take (body-end y) y)) (zeros (drop (body-end y) y))
+    ap (λ (k : ℕ). leb (body-end y) k && (is-well-formed most n (take (body-end y) y) && zeros (drop (body-end y) y))) e
+    ∙ last-first (leb (body-end y) (place-of most)) (is-well-formed most n (take (body-end y) y)) (zeros (drop (body-end y) y))
 
 -- ---- keys
 
@@ -64,7 +64,7 @@ pub record RowAsked (most n : ℕ) (lasts x y : List ℕ) : Type 0 where
   pub row-ok : row most .ok x ≡ true
   pub body-ok : body most .ok y ≡ true
   pub unspent : key-unspent lasts (transaction-in most x y .sent) ≡ true
-  pub formed : wellFormed most n (transaction-in most x y .sent .bytes) ≡ true
+  pub formed : is-well-formed most n (transaction-in most x y .sent .bytes) ≡ true
   pub shaped : run-shaped n (size-of (transaction-in most x y)) (transaction-in most x y .run) ≡ true
 
 -- the number of operations stands first
@@ -77,7 +77,7 @@ module _ (most n : ℕ) (lasts x y : List ℕ) (lx : length x ≡ cells-of most)
       key-is lasts (getD x 0 0) (body most .dec y) ∙ ap (λ (q : ℕ × ℕ). key-unspent lasts (record { client = q .0; sequence = q .1; bytes = body most .dec y })) (sym (dec-key most x (lx ∙ sym (row-size most))))
 
   -- of a body that is well formed
-  run-asked : wellFormed most n (body most .dec y) ≡ true → run-in n (size y) x ≡ row most .ok x && run-shaped n (size-of (transaction-in most x y)) (transaction-in most x y .run)
+  run-asked : is-well-formed most n (body most .dec y) ≡ true → run-in n (size y) x ≡ row most .ok x && run-shaped n (size-of (transaction-in most x y)) (transaction-in most x y .run)
   run-asked w =
       let s = size-is most y in
       run-is n (size y) most (omega (arith, formed most n (body most .dec y) w .most)) x lx
@@ -91,7 +91,7 @@ module _ (most n : ℕ) (lasts x y : List ℕ) (lx : length x ≡ cells-of most)
       to e =
           let (k, e) = both (key-in lasts (getD x 0 0)) (body-in most n y && run-in n (size y) x) e in
           let (b, r) = both (body-in most n y) (run-in n (size y) x) e in
-          let (o, w) = both (body most .ok y) (wellFormed most n (body most .dec y)) (sym (body-is most n y ly) ∙ b) in
+          let (o, w) = both (body most .ok y) (is-well-formed most n (body most .dec y)) (sym (body-is most n y ly) ∙ b) in
           let (p, q) = both (row most .ok x) (run-shaped n (size-of (transaction-in most x y)) (row most .dec x .1)) (sym (run-asked w) ∙ r) in
           record { row-ok = p; body-ok = o; unspent = sym unspent-is ∙ k; formed = w; shaped = q }
 
@@ -106,7 +106,9 @@ module _ (most n : ℕ) (lasts x y : List ℕ) (lx : length x ≡ cells-of most)
 start-or-begun : (n m : ℕ) (p : Run) → run-shaped n m p ≡ true → ltb 0 (p .counter) || at-start p ≡ true
 unfolding run-shaped
 start-or-begun n m p e =
-    let s = says-self (ltb 0 (p .counter) || at-start p) and says-self (leb (p .counter) m) and says-self (leb (p .outcome) 2) and says-self (eqb (p .outcome) 0 || eqb (length (p .writes)) 0) and says-self (leb (length (p .reads) + length (p .writes)) (p .counter)) and says-self (names-shaped n (p .reads)) and says-self (names-shaped n (p .writes)) in
+    let stopped = says-self (eqb (p .outcome) 0 || eqb (length (p .writes)) 0) in
+    let room = says-self (leb (length (p .reads) + length (p .writes)) (p .counter)) in
+    let s = says-self (ltb 0 (p .counter) || at-start p) and says-self (leb (p .counter) m) and says-self (leb (p .outcome) 2) and stopped and room and says-self (names-shaped n (p .reads)) and says-self (names-shaped n (p .writes)) in
     s .0 e .0 .0 .0 .0 .0 .0
 
 start-is : (n m : ℕ) (p : Run) → run-shaped n m p ≡ true → at-start p ≡ eqb (p .counter) 0
@@ -138,7 +140,7 @@ module _ (most n : ℕ) (lasts : List ℕ) where
     pub bodies-ok : all (body most .ok) (chunks (place-of most) k ys) ≡ true
     pub distinct : distinct-keys (sents (transactions-in k xs ys)) ≡ true
     pub unspent : all (key-unspent lasts) (sents (transactions-in k xs ys)) ≡ true
-    pub formed : all (λ (s : Transaction). wellFormed most n (s .bytes)) (sents (transactions-in k xs ys)) ≡ true
+    pub formed : all (λ (s : Transaction). is-well-formed most n (s .bytes)) (sents (transactions-in k xs ys)) ≡ true
     pub order : in-order b (transactions-in k xs ys) ≡ true
     pub shaped : all (λ (j : Pending). run-shaped n (size-of j) (j .run)) (transactions-in k xs ys) ≡ true
 
@@ -161,14 +163,14 @@ module _ (most n : ℕ) (lasts : List ℕ) where
     first-cell : (i : ℕ) → i < 9 → getD x i 0 ≡ getD xs i 0
     first-cell i h = getD-take (cells-of most) xs i 0 (omega arith)
 
-    counter-is : transaction-in most x y .run .counter ≡ getD xs 1 0
+    counter-is : transaction-in most x y .run .counter ≡ counter-in xs
     counter-is = dec-counter most x cells-here ∙ first-cell 1 (omega arith)
 
     finished-is : finished (transaction-in most x y) ≡ finished-in xs y
     finished-is =
         finished-numbers (transaction-in most x y)
         ∙ ap₂ (λ (o c : ℕ). ltb 0 o || leb (size-of (transaction-in most x y)) c) (dec-outcome most x cells-here ∙ first-cell 2 (omega arith)) counter-is
-        ∙ ap (λ (m : ℕ). ltb 0 (getD xs 2 0) || leb m (getD xs 1 0)) (size-is most y)
+        ∙ ap (λ (m : ℕ). ltb 0 (outcome-in xs) || leb m (counter-in xs)) (size-is most y)
 
     absent-here : absent (getD xs 0 0) (chunks (cells-of most) k xs′) ≡ not (any (is-key (transaction-in most x y .sent .client) (transaction-in most x y .sent .sequence)) (sents (transactions-in k xs′ ys′)))
     absent-here =
@@ -176,7 +178,7 @@ module _ (most n : ℕ) (lasts : List ℕ) where
         ∙ ap (λ (q : ℕ × ℕ). not (any (is-key (q .0) (q .1)) (sents (transactions-in k xs′ ys′)))) (sym (dec-key most x cells-here ∙ ap key-of (first-cell 0 (omega arith))))
 
     order-here : (b : Bool) → run-shaped n (size-of (transaction-in most x y)) (transaction-in most x y .run) ≡ true
-        → in-order b (transaction-in most x y ∷ transactions-in k xs′ ys′) ≡ (b || eqb (getD xs 1 0) 0) && in-order (b && finished-in xs y) (transactions-in k xs′ ys′)
+        → in-order b (transaction-in most x y ∷ transactions-in k xs′ ys′) ≡ (b || eqb (counter-in xs) 0) && in-order (b && finished-in xs y) (transactions-in k xs′ ys′)
     order-here b s =
         order-next n b (transaction-in most x y) (transactions-in k xs′ ys′) s
         ∙ ap₂ (λ (c : ℕ) (t : Bool). (b || eqb c 0) && in-order (b && t) (transactions-in k xs′ ys′)) counter-is finished-is
@@ -191,8 +193,8 @@ module _ (most n : ℕ) (lasts : List ℕ) where
     more-to : next-in most n lasts b k xs (y k xs ys lx) ≡ true → Rest → Asked b (suc k) xs ys
     unfolding next-in chunks
     more-to e r =
-        let (w, e) = both (row-in most n lasts (x k xs ys lx) (y k xs ys lx)) ((b || eqb (getD xs 1 0) 0) && absent (getD xs 0 0) (chunks (cells-of most) k (xs′ k xs ys lx))) e in
-        let (o, a) = both (b || eqb (getD xs 1 0) 0) (absent (getD xs 0 0) (chunks (cells-of most) k (xs′ k xs ys lx))) e in
+        let (w, e) = both (row-in most n lasts (x k xs ys lx) (y k xs ys lx)) ((b || eqb (counter-in xs) 0) && absent (getD xs 0 0) (chunks (cells-of most) k (xs′ k xs ys lx))) e in
+        let (o, a) = both (b || eqb (counter-in xs) 0) (absent (getD xs 0 0) (chunks (cells-of most) k (xs′ k xs ys lx))) e in
         let h = here .0 w in
         record {
           rows-ok = ap₂ _&&_ (h .row-ok) (r .rows-ok);
@@ -213,9 +215,9 @@ module _ (most n : ℕ) (lasts : List ℕ) where
         let (o, os) = both (body most .ok (y k xs ys lx)) (all (body most .ok) (chunks (place-of most) k (ys′ k xs ys lx))) (v .bodies-ok) in
         let (d, ds) = both (not (any (is-key (j .sent .client) (j .sent .sequence)) (sents js))) (distinct-keys (sents js)) (v .distinct) in
         let (u, us) = both (key-unspent lasts (j .sent)) (all (key-unspent lasts) (sents js)) (v .unspent) in
-        let (f, fs) = both (wellFormed most n (j .sent .bytes)) (all (λ (s : Transaction). wellFormed most n (s .bytes)) (sents js)) (v .formed) in
+        let (f, fs) = both (is-well-formed most n (j .sent .bytes)) (all (λ (s : Transaction). is-well-formed most n (s .bytes)) (sents js)) (v .formed) in
         let (s, ss) = both (run-shaped n (size-of j) (j .run)) (all (λ (i : Pending). run-shaped n (size-of i) (i .run)) js) (v .shaped) in
-        let (t, ts) = both (b || eqb (getD xs 1 0) 0) (in-order (b && finished-in xs (y k xs ys lx)) js) (sym (order-here k xs ys lx b s) ∙ v .order) in
+        let (t, ts) = both (b || eqb (counter-in xs) 0) (in-order (b && finished-in xs (y k xs ys lx)) js) (sym (order-here k xs ys lx b s) ∙ v .order) in
         let w : row-in most n lasts (x k xs ys lx) (y k xs ys lx) ≡ true = here .1 (record { row-ok = r; body-ok = o; unspent = u; formed = f; shaped = s }) in
         (ap₂ _&&_ w (ap₂ _&&_ t (absent-here k xs ys lx ∙ d)), record { rows-ok = rs; bodies-ok = os; distinct = ds; unspent = us; formed = fs; order = ts; shaped = ss })
 

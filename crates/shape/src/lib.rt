@@ -1,18 +1,18 @@
 // The shape check of document 01 on the two lent areas, in one pass: equal to the definition on bytes of any contents and any length.
-// One row is `row_shape`'s, header and objects are `object_shape`'s.
+// One row is `shape_row`'s, header and objects are `shape_objects`'s.
 use model::Limits;
 ghost use mathlib.Core.Path.{_≡_};
 ghost use mathlib.Core.Bool.{true, _&&_, _||_};
-ghost use Prim.Native.Nat.{_+_, _*_, _≤_, _<_};
+ghost use Prim.Native.Nat.{_*_, _≤_, _<_};
 ghost use lib.Dec.{eqb};
 ghost use lib.ListN.{length};
 ghost use Rattle.cells.specs.Cells.{cells};
 ghost use Rattle.layout.specs.Offsets.{Sane, bodies-length};
 ghost use Rattle.layout.specs.Fit.{fit};
-ghost use Rattle.row_shape.specs.Scan.{place-of};
-ghost use Rattle.shape.specs.Scan.{next-in, finished-in, rows-in, pending-part};
-ghost use Rattle.shape.specs.Lent.{Rows};
-ghost use Rattle.object_shape.specs.Lent.{Record};
+ghost use Rattle.shape_row.specs.RowScan.{place-of};
+ghost use Rattle.shape.specs.AreaScan.{placed-in, finished-in, keyless-in, rows-in, used-in, pending-part};
+ghost use Rattle.shape.specs.LentRows.{Rows};
+ghost use Rattle.shape_objects.specs.LentRecord.{Record};
 
 // May a row stand where it does? All before it are finished, or it is at its start.
 fn order_ok(finished: bool, counter: u64) -> bool
@@ -21,25 +21,14 @@ fn order_ok(finished: bool, counter: u64) -> bool
     if finished { true } else { counter == 0 }
 }
 
-// The first of later + 1 rows: itself, its place in the order, and its key, which no later row has.
-fn next_ok(
-    rows: &[u8],
-    place: &[u8],
-    lasts: &[u8],
-    most: usize,
-    n: usize,
-    later: usize,
-    finished: bool,
-) -> bool
-    requires { ⌜ Rows most (later + 1) (now rows) (now lasts) × (length (now place) ≡ place-of most) ⌝ }
-    ensures { λ r. ⌜ r ≡ next-in most n (cells (now (lasts .entry))) finished later (cells (now (rows .entry))) (now (place .entry)) ⌝ }
+// The first row: itself, and its place in the order, where finished says whether all before it are.
+fn next_ok(rows: &[u8], place: &[u8], lasts: &[u8], most: usize, n: usize, finished: bool) -> bool
+    requires { ⌜ Rows most 1 (now rows) (now lasts) × (length (now place) ≡ place-of most) ⌝ }
+    ensures { λ r. ⌜ r ≡ placed-in most n (cells (now (lasts .entry))) finished (cells (now (rows .entry))) (now (place .entry)) ⌝ }
 {
-    let width = 9 + 2 * most;
-    let end = width * 8;
-    if row_shape::row_ok(&rows[..end], place, lasts, most, n) {
-        if order_ok(finished, cells::get(rows, 1)) {
-            return row_shape::absent(&rows[end..], width, later, cells::get(rows, 0));
-        }
+    let end = shape_row::row_cells(most) * 8;
+    if shape_row::row_ok(&rows[..end], place, lasts, most, n) {
+        return order_ok(finished, cells::get(rows, layout::ROW_COUNTER));
     }
     false
 }
@@ -56,20 +45,19 @@ fn is_finished(rows: &[u8], place: &[u8]) -> bool
     requires { ⌜ (24 ≤ length (now rows)) × (0 < length (now place)) ⌝ }
     ensures { λ r. ⌜ r ≡ finished-in (cells (now (rows .entry))) (now (place .entry)) ⌝ }
 {
-    if 0 < cells::get(rows, 2) {
-        true
-    } else {
-        row_shape::small(place[0]) <= cells::get(rows, 1) as usize
-    }
+    let counter = cells::get(rows, layout::ROW_COUNTER) as usize;
+    let outcome = cells::get(rows, layout::ROW_OUTCOME) as usize;
+    execution::is_finished(place, counter, outcome)
 }
 
-// The first count rows, each with the place of its body.
-fn rows_ok(rows: &[u8], places: &[u8], lasts: &[u8], most: usize, n: usize, count: usize) -> bool
+// The first count rows, each with the place of its body, but for their keys: row by row, up to the first that fails. A turn takes the row from byte
+// at on and the place from byte from on; finished says whether all rows before are.
+fn each_ok(rows: &[u8], places: &[u8], lasts: &[u8], most: usize, n: usize, count: usize) -> bool
     requires { ⌜ Rows most count (now rows) (now lasts) × (count * place-of most ≤ length (now places)) ⌝ }
-    ensures { λ r. ⌜ r ≡ rows-in most n (cells (now (lasts .entry))) true count (cells (now (rows .entry))) (now (places .entry)) ⌝ }
+    ensures { λ r. ⌜ r ≡ keyless-in most n (cells (now (lasts .entry))) true count (cells (now (rows .entry))) (now (places .entry)) ⌝ }
 {
-    let width = (9 + 2 * most) * 8;
-    let size = 1 + 11 * most;
+    let width = shape_row::row_cells(most) * 8;
+    let size = operation::body_length(most);
     let mut at = 0;
     let mut from = 0;
     let mut left = count;
@@ -77,15 +65,7 @@ fn rows_ok(rows: &[u8], places: &[u8], lasts: &[u8], most: usize, n: usize, coun
     while 0 < left {
         let to = from + size;
         left -= 1;
-        if next_ok(
-            &rows[at..],
-            &places[from..to],
-            lasts,
-            most,
-            n,
-            left,
-            finished,
-        ) {
+        if next_ok(&rows[at..], &places[from..to], lasts, most, n, finished) {
             finished = both(finished, is_finished(&rows[at..], &places[from..to]));
             at += width;
             from = to;
@@ -96,7 +76,38 @@ fn rows_ok(rows: &[u8], places: &[u8], lasts: &[u8], most: usize, n: usize, coun
     true
 }
 
-// The number of pending transactions, rows and bodies, and zeros behind both.
+// The first count rows, each with the place of its body, and their keys, which are different: a loop of their own, over one cell a row.
+fn rows_ok(rows: &[u8], places: &[u8], lasts: &[u8], most: usize, n: usize, count: usize) -> bool
+    requires { ⌜ Rows most count (now rows) (now lasts) × (count * place-of most ≤ length (now places)) ⌝ }
+    ensures { λ r. ⌜ r ≡ rows-in most n (cells (now (lasts .entry))) true count (cells (now (rows .entry))) (now (places .entry)) ⌝ }
+{
+    if each_ok(rows, places, lasts, most, n, count) {
+        return shape_keys::distinct(rows, shape_row::row_cells(most), count);
+    }
+    false
+}
+
+// The rows in use, count of them, where they lie in the areas, beside the number of objects and the last numbers.
+fn used_ok(area: &[u8], bodies: &[u8], l: Limits, count: usize) -> bool
+    requires lent { ⌜ Record l (now area) × (length (now bodies) ≡ bodies-length l) ⌝ }
+    requires few { ⌜ count ≤ l .pending ⌝ }
+    ensures { λ r. ⌜ r ≡ used-in l count (cells (now (area .entry))) (now (bodies .entry)) ⌝ }
+{
+    let n = cells::get(area, layout::size_at(l)) as usize;
+    let lasts = layout::last_at(l, 0) * 8;
+    let readers = layout::reader_at(l, 0) * 8;
+    let first = layout::row_at(l, 0) * 8;
+    rows_ok(
+        &area[first..],
+        bodies,
+        &area[lasts..readers],
+        l.operations,
+        n,
+        count,
+    )
+}
+
+// The number of pending transactions, their rows and bodies, and zeros where there might be more of both.
 fn pending_ok(area: &[u8], bodies: &[u8], l: Limits) -> bool
     requires { ⌜ Record l (now area) × (length (now bodies) ≡ bodies-length l) ⌝ }
     ensures { λ r. ⌜ r ≡ pending-part l (cells (now (area .entry))) (now (bodies .entry)) ⌝ }
@@ -105,26 +116,18 @@ fn pending_ok(area: &[u8], bodies: &[u8], l: Limits) -> bool
     if l.pending < count {
         return false;
     }
-    let n = cells::get(area, 17 + l.readers) as usize;
-    let first = layout::row_at(l, 0) * 8;
     let end = layout::row_at(l, count) * 8;
+    let tail = layout::row_at(l, l.pending) * 8;
     let last = layout::body_at(l, count);
-    if rows_ok(
-        &area[first..],
-        bodies,
-        &area[8..136],
-        l.operations,
-        n,
-        count,
-    ) {
-        if cells::all_zero(area, end, area.len()) {
-            return cells::all_zero(bodies, last, bodies.len());
+    if used_ok(area, bodies, l, count) {
+        if zero_scan::all_zero(area, end, tail) {
+            return zero_scan::all_zero(bodies, last, bodies.len());
         }
     }
     false
 }
 
-// The shape check. Areas of wrong lengths fail it.
+// The shape check. Areas of wrong lengths fail it; on others the header first, since the objects are judged beside its timestamp and readers.
 pub fn check(area: &[u8], bodies: &[u8], l: Limits) -> bool
     requires { ⌜ Sane l × (l .operations ≤ 16) ⌝ }
     ensures { λ r. ⌜ r ≡ fit l (now (area .entry), now (bodies .entry)) ⌝ }
@@ -135,8 +138,8 @@ pub fn check(area: &[u8], bodies: &[u8], l: Limits) -> bool
     if bodies.len() != layout::bodies_length(l) {
         return false;
     }
-    if object_shape::header_ok(area, l) {
-        if object_shape::objects_ok(area, l) {
+    if shape_objects::header_ok(area, l) {
+        if shape_objects::objects_ok(area, l) {
             return pending_ok(area, bodies, l);
         }
     }

@@ -6,8 +6,8 @@ use console::arguments::Octet;
 use console::arguments::Single;
 use console::faults::Fault;
 use console::faults::Name;
-use console::output;
 use text::hexadecimal;
+use text::numerals;
 use text::words;
 
 pub enum Area {
@@ -21,6 +21,7 @@ pub enum Operand {
     Unknown,
 }
 
+// The area that the next word names.
 fn named(line: &[u8], at: usize) -> Operand {
     let w = words::next(line, at);
     let from = w.from;
@@ -32,6 +33,7 @@ fn named(line: &[u8], at: usize) -> Operand {
     }
 }
 
+// So many bytes of one area, and as many of the other as before.
 fn lent_with(lent: Lent, area: Area, n: usize) -> Lent {
     match area {
         Area::Record => Lent {
@@ -45,6 +47,7 @@ fn lent_with(lent: Lent, area: Area, n: usize) -> Lent {
     }
 }
 
+// `lend`: later calls are lent so many bytes of an area, at most all.
 pub fn lend(lent: Lent, line: &[u8], at: usize) -> Answer {
     match named(line, at) {
         Operand::Is(area, behind) => match arguments::last_number(line, behind, Name::Length) {
@@ -55,15 +58,17 @@ pub fn lend(lent: Lent, line: &[u8], at: usize) -> Answer {
     }
 }
 
+// One byte changed; an index beyond the area's end is a wrong line.
 fn store(area: &mut [u8], i: usize, byte: u8, out: &mut [u8]) -> Answer {
     if i < area.len() {
         area[i] = byte;
-        Answer::Line(output::put_decimal(out, 0, 0))
+        Answer::Line(numerals::put_unsigned(out, 0, 0))
     } else {
         Answer::Wrong(Fault::Beyond)
     }
 }
 
+// The arguments of `poke` behind the area's name.
 fn poke_area(area: &mut [u8], line: &[u8], at: usize, out: &mut [u8]) -> Answer {
     match arguments::number(line, at, Name::At) {
         Single::Is(i, behind) => match arguments::last_byte(line, behind) {
@@ -74,7 +79,7 @@ fn poke_area(area: &mut [u8], line: &[u8], at: usize, out: &mut [u8]) -> Answer 
     }
 }
 
-// Changes one byte of a whole area, however much of it is lent.
+// `poke`: changes one byte of a whole area, however much of it is lent.
 pub fn poke(
     records: &mut [u8],
     bodies: &mut [u8],
@@ -91,6 +96,7 @@ pub fn poke(
     }
 }
 
+// The bytes of an area as digits; `dump` takes no further word.
 fn dump_area(area: &[u8], line: &[u8], at: usize, out: &mut [u8]) -> Answer {
     if words::ended(line, at) {
         Answer::Line(hexadecimal::put(out, 0, area))
@@ -99,6 +105,7 @@ fn dump_area(area: &[u8], line: &[u8], at: usize, out: &mut [u8]) -> Answer {
     }
 }
 
+// `dump`: the lent bytes of an area.
 pub fn dump(records: &[u8], bodies: &[u8], line: &[u8], at: usize, out: &mut [u8]) -> Answer {
     match named(line, at) {
         Operand::Is(area, behind) => match area {

@@ -52,7 +52,7 @@ pub fn open(
     at: usize,
     out: &mut [u8],
 ) -> Answer {
-    // more than a line can hold
+    // more than any replica takes: what does not fit is counted, and the library refuses
     let mut values: [i64; 2048] = [0; 2048];
     open_into(records, bodies, line, at, &mut values, out)
 }
@@ -103,8 +103,8 @@ pub fn early(
     at: usize,
     out: &mut [u8],
 ) -> Answer {
-    // more than a line can hold
-    let mut body = [0u8; 2048];
+    // more than a line can hold, so that the library refuses what is too long
+    let mut body = [0u8; 65536];
     early_into(records, bodies, line, at, &mut body, out)
 }
 

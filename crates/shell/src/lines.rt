@@ -8,6 +8,7 @@ use console::input;
 use console::input::Input;
 use console::output;
 use text::buffer;
+use text::numerals;
 use text::words;
 ghost use mathlib.Core.Path.{_≡_};
 ghost use lib.ListN.{length};
@@ -110,7 +111,7 @@ fn command(
             going: output::write_line(out, n),
         },
         Answer::Lend(later) => {
-            let n = output::put_decimal(out, 0, 0);
+            let n = numerals::put_unsigned(out, 0, 0);
             Progress {
                 lines,
                 lent: later,

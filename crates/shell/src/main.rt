@@ -8,8 +8,9 @@ mod lines;
 fn main() {
     let mut records = [0u8; 28112];
     let mut bodies = [0u8; 5664];
-    let mut buffer = [0u8; 4096];
-    // the longest line is a dump of the record area
+    // the longest line with its newline
+    let mut buffer = [0u8; 131072];
+    // the longest line of output is a dump of the record area
     let mut out = [0u8; 65536];
     lines::run(&mut records, &mut bodies, &mut buffer, &mut out);
 }

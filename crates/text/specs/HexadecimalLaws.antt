@@ -10,7 +10,7 @@ use lib.Seq.{drop-cons, take-suc, take-suc-set, length-take-le}
 use lib.Dec.{ltb}
 use borrow.Author.Tests.{lt-ltb, le-ltb, le-leb, lt-leb}
 use Rattle.text.specs.declared.hexadecimal.Digits.the-variants.{Bytes, Malformed}
-use Rattle.text.specs.Hexadecimal.{glyphOf, spelled, nibbleOf, pairs, bytesOf, Parsed}
+use Rattle.text.specs.Hexadecimal.{glyph-of, spelled, nibble-of, pairs, hex-bytes, Parsed}
 
 -- ---- reading
 
@@ -20,7 +20,7 @@ pub record Reading (w before out : List ℕ) (i n : ℕ) : Type 0 where
   pub kept : length out ≡ length before
   pub room : n ≤ length before
   pub tested : pairs w ≡ pairs (drop i w)
-  pub read : bytesOf w ≡ take n out ++ bytesOf (drop i w)
+  pub read : hex-bytes w ≡ take n out ++ hex-bytes (drop i w)
 
 pub begun : (w before : List ℕ) → Reading w before before 0 0
 begun w before = record { within = omega arith; kept = refl; room = omega arith; tested = refl; read = refl }
@@ -30,7 +30,7 @@ refused w before after e = record { answer = rw e; bytes = λ q. let z : _≡_ {
 
 module _ (w before out : List ℕ) (i n : ℕ) (r : Reading w before out i n) where
   -- a pair of bytes, which say a high and a low digit
-  module _ (h : i + 1 < length w) (high low : ℕ) (eh : high ≡ nibbleOf (getD w i 0)) (el : low ≡ nibbleOf (getD w (i + 1) 0)) where
+  module _ (h : i + 1 < length w) (high low : ℕ) (eh : high ≡ nibble-of (getD w i 0)) (el : low ≡ nibble-of (getD w (i + 1) 0)) where
     split : drop i w ≡ getD w i 0 ∷ getD w (i + 1) 0 ∷ drop (i + 2) w
     split =
         let e : suc i ≡ i + 1 = omega arith in
@@ -41,8 +41,8 @@ module _ (w before out : List ℕ) (i n : ℕ) (r : Reading w before out i n) wh
     unfolding pairs
     pairs-here = r .tested ∙ rw (split, eh, el)
 
-    bytes-here : bytesOf w ≡ take n out ++ ((high * 16 + low) ∷ bytesOf (drop (i + 2) w))
-    unfolding bytesOf
+    bytes-here : hex-bytes w ≡ take n out ++ ((high * 16 + low) ∷ hex-bytes (drop (i + 2) w))
+    unfolding hex-bytes
     bytes-here = r .read ∙ rw (split, eh, el)
 
     pub high-wrong : 15 < high → Parsed w before out Malformed
@@ -53,8 +53,8 @@ module _ (w before out : List ℕ) (i n : ℕ) (r : Reading w before out i n) wh
 
     pub full : length out ≤ n → Parsed w before out Malformed
     full t =
-        let l : length before < length (bytesOf w) = rw (bytes-here, length-append, length-take-le n out (omega (arith, r .kept, r .room))) (omega (arith, r .kept)) in
-        record { answer = rw (lt-leb (length (bytesOf w)) (length before) l, and-false); bytes = λ q. let z : _≡_ {A = ℕ} 0 1 = cc in absurd (omega arith) }
+        let l : length before < length (hex-bytes w) = rw (bytes-here, length-append, length-take-le n out (omega (arith, r .kept, r .room))) (omega (arith, r .kept)) in
+        record { answer = rw (lt-leb (length (hex-bytes w)) (length before) l, and-false); bytes = λ q. let z : _≡_ {A = ℕ} 0 1 = cc in absurd (omega arith) }
 
     pub goes-on : high ≤ 15 → low ≤ 15 → n < length out → Reading w before (set out n (high * 16 + low)) (i + 2) (n + 1)
     goes-on a b t =
@@ -73,10 +73,10 @@ module _ (w before out : List ℕ) (i n : ℕ) (r : Reading w before out i n) wh
       refused w before out (r .tested ∙ rw (drop-cons w i 0 t, e, drop-of-length-le w h))
 
   pub ended : length w ≤ i → Parsed w before out (Bytes n)
-  unfolding pairs bytesOf
+  unfolding pairs hex-bytes
   ended h =
-      let e : bytesOf w ≡ take n out = r .read ∙ rw (drop-of-length-le w h, append-nil) in
-      let l : length (bytesOf w) ≡ n = rw e (length-take-le n out (omega (arith, r .kept, r .room))) in
+      let e : hex-bytes w ≡ take n out = r .read ∙ rw (drop-of-length-le w h, append-nil) in
+      let l : length (hex-bytes w) ≡ n = rw e (length-take-le n out (omega (arith, r .kept, r .room))) in
       let p : pairs w ≡ true = r .tested ∙ rw (drop-of-length-le w h) in
       record { answer = rw (p, l, le-leb n (length before) (r .room)); bytes = λ q. rw l (sym e) }
 
@@ -94,7 +94,7 @@ length-spelled (x ∷ l) = omega (arith, length-spelled l)
 
 -- the two digits of byte i behind those of the bytes before it
 pub spelled-more : (l out : List ℕ) (i a b : ℕ) → i < length l → length out ≡ 2 * length l → take (2 * i) out ≡ spelled (take i l)
-    → a ≡ glyphOf (getD l i 0 / 16) → b ≡ glyphOf (getD l i 0 % 16)
+    → a ≡ glyph-of (getD l i 0 / 16) → b ≡ glyph-of (getD l i 0 % 16)
     → take (2 * (i + 1)) (set (set out (2 * i) a) (2 * i + 1) b) ≡ spelled (take (i + 1) l)
 unfolding spelled
 spelled-more l out i a b h e t ea eb =

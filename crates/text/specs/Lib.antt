@@ -1,8 +1,11 @@
 pub mod Numbers
 pub mod NumberLaws
-pub mod Words
+pub mod Numerals
+pub mod NumeralLaws
+pub mod LineWords
 pub mod WordLaws
 pub mod Hexadecimal
 pub mod HexadecimalLaws
 pub mod Buffer
 pub mod BufferLaws
+pub mod TextExamples

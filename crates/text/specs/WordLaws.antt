@@ -12,10 +12,10 @@ use lib.Seq.{drop-length, drop-cons, drop-drop}
 use borrow.Author.Count.{below-more}
 use borrow.Author.Tests.{not-true, not-false}
 use Rattle.text.specs.declared.words.Word.{Word}
-use Rattle.text.specs.Words.{isBlank, run, firstWord, rest, bytes, Next, word, Placed}
+use Rattle.text.specs.LineWords.{is-blank, run, first-word, rest, bytes, Next, word, Placed}
 
 -- at index i of a line, where the byte is a blank or not
-module _ (blank : Bool) (i : ℕ) (l : List ℕ) (h : i < length l) (b : Bool) (e : b ≡ isBlank (getD l i 0)) where
+module _ (blank : Bool) (i : ℕ) (l : List ℕ) (h : i < length l) (b : Bool) (e : b ≡ is-blank (getD l i 0)) where
   here : run blank (drop i l) ≡ cond (Bool·beq b blank) (suc (run blank (drop (i + 1) l))) 0
   unfolding run
   here = rw (e, add-one, drop-cons l i 0)
@@ -40,8 +40,8 @@ module _ (l : List ℕ) (at start from to : ℕ) (e : drop start l ≡ drop at l
   begins : drop from l ≡ drop (run true (drop at l)) (drop at l)
   begins = rw (← e, drop-drop, ← f)
 
-  pub word-is : take (to - from) (drop from l) ≡ firstWord (drop at l)
-  unfolding firstWord
+  pub word-is : take (to - from) (drop from l) ≡ first-word (drop at l)
+  unfolding first-word
   word-is =
       let n : to - from ≡ run false (drop from l) = omega arith in
       rw n (ap (λ (x : List ℕ). take (run false x) x) begins)
@@ -62,14 +62,14 @@ pub none-passed : (l w : List ℕ) → Passed l w 0 0
 none-passed l w = record { within = omega arith; others = λ i h. absurd (omega arith); next = λ j. rw zero-add }
 
 module _ (l w : List ℕ) (at k : ℕ) (p : Passed l w at k) where
-  word-here : word k l ≡ firstWord (drop at l)
+  word-here : word k l ≡ first-word (drop at l)
   unfolding word
   word-here = rw (add-zero k) at (p .next 0)
 
   pub found : (x : Word) → Next l at x → bytes l x ≡ w → Placed l w k
   found x n e = record { first = p .others; here = inl (word-here ∙ sym (n .is) ∙ e) }
 
-  pub none-left : firstWord (drop at l) ≡ [] → Placed l w k
+  pub none-left : first-word (drop at l) ≡ [] → Placed l w k
   none-left e = record { first = p .others; here = inr (word-here ∙ e) }
 
   pub pass : (x : Word) → Next l at x → (bytes l x ≡ w → ⊥) → Passed l w (x .to) (k + 1)
@@ -81,9 +81,9 @@ module _ (l w : List ℕ) (at k : ℕ) (p : Passed l w at k) where
         next = λ j. let a : k + 1 + j ≡ k + suc j = omega arith in rw (a, n .behind) (p .next (suc j));
       }
 
-pub first-of-none : (l : List ℕ) (at : ℕ) → length l ≤ at → firstWord (drop at l) ≡ []
-unfolding firstWord run
+pub first-of-none : (l : List ℕ) (at : ℕ) → length l ≤ at → first-word (drop at l) ≡ []
+unfolding first-word run
 first-of-none l at h = rw (drop-of-length-le l h)
 
-pub first-empty : (l : List ℕ) (at : ℕ) (x : Word) → Next l at x → x .from ≡ x .to → firstWord (drop at l) ≡ []
+pub first-empty : (l : List ℕ) (at : ℕ) (x : Word) → Next l at x → x .from ≡ x .to → first-word (drop at l) ≡ []
 first-empty l at x n e = let z : x .to - x .from ≡ 0 = omega arith in sym (n .is) ∙ rw z

@@ -3,7 +3,7 @@ ghost use mathlib.Core.Path.{_≡_};
 ghost use Prim.Native.Nat.{_*_, _<_};
 ghost use lib.ListN.{length};
 ghost use Rattle.text.specs.Buffer.{Put};
-ghost use Rattle.text.specs.Hexadecimal.{nibbleOf, glyphOf, spelled, Parsed};
+ghost use Rattle.text.specs.Hexadecimal.{nibble-of, glyph-of, spelled, Parsed};
 
 pub enum Digits {
     // so many bytes
@@ -13,7 +13,7 @@ pub enum Digits {
 
 // What a byte says as a digit; 16 where it is none.
 fn nibble(byte: u8) -> u8
-    ensures { λ r. ⌜ r ≡ nibbleOf byte ⌝ }
+    ensures { λ r. ⌜ r ≡ nibble-of byte ⌝ }
 {
     if byte < b'0' {
         16
@@ -62,7 +62,7 @@ pub fn parse(word: &[u8], out: &mut [u8]) -> Digits
 
 fn glyph(n: u8) -> u8
     requires { ⌜ n < 16 ⌝ }
-    ensures { λ r. ⌜ r ≡ glyphOf n ⌝ }
+    ensures { λ r. ⌜ r ≡ glyph-of n ⌝ }
 {
     if n < 10 { b'0' + n } else { b'a' + (n - 10) }
 }

@@ -1,7 +1,7 @@
 // Numbers as words: decimal digits, before which a signed number may have a minus sign.
 ghost use mathlib.Core.Path.{_≡_};
 ghost use lib.IntN.{natAbs};
-ghost use Rattle.text.specs.Numbers.{digitOf, unsignedOf, negativeOf, hasMinus, signedOf};
+ghost use Rattle.text.specs.Numbers.{digit-of, unsigned-of, negative-of, has-minus, signed-of};
 
 pub enum Number {
     Value(u64),
@@ -15,7 +15,7 @@ pub enum Integer {
 
 // What a decimal digit says; 10 for any other byte.
 fn digit(byte: u8) -> u64
-    ensures { λ r. ⌜ r ≡ digitOf byte ⌝ }
+    ensures { λ r. ⌜ r ≡ digit-of byte ⌝ }
 {
     if byte < 48 {
         10
@@ -28,7 +28,7 @@ fn digit(byte: u8) -> u64
 
 // The number that a word of digits says, where it is not above `most`.
 pub fn unsigned(word: &[u8], most: u64) -> Number
-    ensures { λ r. ⌜ r ≡ unsignedOf most (now (word .entry)) ⌝ }
+    ensures { λ r. ⌜ r ≡ unsigned-of most (now (word .entry)) ⌝ }
 {
     if word.len() == 0 {
         return Number::Malformed;
@@ -54,7 +54,7 @@ pub fn unsigned(word: &[u8], most: u64) -> Number
 
 // The number below 0, or 0, whose distance from 0 a word of digits says.
 fn negative(digits: &[u8]) -> Integer
-    ensures { λ r. ⌜ r ≡ negativeOf (now (digits .entry)) ⌝ }
+    ensures { λ r. ⌜ r ≡ negative-of (now (digits .entry)) ⌝ }
 {
     match unsigned(digits, 9_223_372_036_854_775_808) {
         Number::Value(n) => Integer::Value(cells::signed(std::num::wrapping_sub_u64(0, n))),
@@ -63,7 +63,7 @@ fn negative(digits: &[u8]) -> Integer
 }
 
 fn has_minus(word: &[u8]) -> bool
-    ensures { λ r. ⌜ r ≡ hasMinus (now (word .entry)) ⌝ }
+    ensures { λ r. ⌜ r ≡ has-minus (now (word .entry)) ⌝ }
 {
     if 0 < word.len() {
         word[0] == b'-'
@@ -74,7 +74,7 @@ fn has_minus(word: &[u8]) -> bool
 
 // The number that a word of digits, with or without a minus sign, says, where 64 bits hold it.
 pub fn signed(word: &[u8]) -> Integer
-    ensures { λ r. ⌜ r ≡ signedOf (now (word .entry)) ⌝ }
+    ensures { λ r. ⌜ r ≡ signed-of (now (word .entry)) ⌝ }
 {
     if has_minus(word) {
         return negative(&word[1..]);

@@ -2,7 +2,7 @@
 ghost use mathlib.Core.Path.{_≡_};
 ghost use Prim.Native.Nat.{_+_, _≤_};
 ghost use lib.ListN.{length, drop};
-ghost use Rattle.text.specs.Words.{isBlank, run, Next, Placed};
+ghost use Rattle.text.specs.LineWords.{is-blank, run, Next, Placed};
 
 // A word is the bytes from index from up to, not including, index to.
 pub struct Word {
@@ -11,7 +11,7 @@ pub struct Word {
 }
 
 fn is_blank(byte: u8) -> bool
-    ensures { λ r. ⌜ r ≡ isBlank byte ⌝ }
+    ensures { λ r. ⌜ r ≡ is-blank byte ⌝ }
 {
     byte == b' ' || byte == b'\t'
 }

@@ -2,21 +2,19 @@
 -- A block: a count, then a stamp and a value for each version, the newest first; unused cells are 0. A reader's cell: 0 closed, else its stamp + 1.
 -- n is the number of readers, m that of objects, rc are the readers' cells, bc the cells of one block, cs those of blocks one after another.
 use mathlib.Core.Path.{_≡_}
-use mathlib.Core.Bool.{Bool, true, cond, _&&_}
+use mathlib.Core.Bool.{Bool, cond, _&&_}
 use mathlib.Core.Option.{Option, none, some}
 use mathlib.Core.List.{List, [], _∷_, _++_, map}
-use Prim.Native.Nat.{ℕ, zero, suc, _+_, _*_, _-_, _/_, _<_, _≤_, _^_}
+use Prim.Native.Nat.{ℕ, zero, suc, _+_, _*_, _-_, _<_, _^_}
 use lib.Dec.{leb, ltb}
-use lib.ListN.{length, getD, take, drop, set, replicate}
+use lib.ListN.{length, getD, drop, replicate}
 use mir.Syntax.{w64}
 use mir.Val.{SFits, toZ, ofZ}
-use Rattle.cells.specs.Cells.{cells}
-unfoldable pub use Rattle.cells.specs.Rows.{chunks}
+unfoldable pub use Rattle.cells.specs.Chunks.{chunks}
 use Rattle.cells.specs.Zeros.{zeros}
 use Rattle.model.specs.Lists.{any, all}
 use Rattle.model.specs.Serial.{Version}
 use Rattle.model.specs.Replica.{opens}
-use Rattle.model.specs.Shape.{falling}
 use Rattle.model.specs.ShapeCheck.{versions-shaped}
 
 -- ---- what the cells say
@@ -83,12 +81,6 @@ block-ok n timestamp rc bc = framed n bc && versions-shaped timestamp (stamps rc
 unfoldable pub blocks-ok : ℕ → ℕ → List ℕ → ℕ → List ℕ → Bool
 blocks-ok n timestamp rc m cs = all (block-ok n timestamp rc) (chunks (width n) m cs)
 
--- what pruning asks of a block: it holds after the check, whatever readers have opened or closed since
-pub record Ordered (n : ℕ) (bc : List ℕ) : Type 0 where
-  pub least : 0 < getD bc 0 0
-  pub frame : framed n bc ≡ true
-  pub order : falling (held-in bc) ≡ true
-
 -- ---- the check in one pass, from the newest version on
 
 -- some open reader's stamp is s or more, and below upper
@@ -108,26 +100,14 @@ unfoldable pub chain : List ℕ → ℕ → ℕ → List Version → Bool
 chain rc low upper [] = ltb upper low
 chain rc low upper (v ∷ vs) = between rc (v .stamp) upper && chain rc low (v .stamp) vs
 
--- ---- pruning in one pass
+-- the same of a block of k versions, after its newest
+abbrev pub chained : List ℕ → ℕ → ℕ → List ℕ → Bool
+chained rc low k bc = chain rc low (getD bc 1 0) (versions-in (k - 1) (drop 3 bc))
 
--- the versions after one of stamp upper that are held
+-- the versions after one of stamp upper that are held: pruning in one pass
 unfoldable pub trim : List ℕ → ℕ → List Version → List Version
 trim rc upper [] = []
 trim rc upper (v ∷ vs) = cond (between rc (v .stamp) upper) (v ∷ trim rc (v .stamp) vs) (trim rc (v .stamp) vs)
-
--- the cells of those of k versions, after one of stamp upper, that are held
-unfoldable pub kept : List ℕ → ℕ → ℕ → List ℕ → List ℕ
-kept rc upper zero cs = []
-kept rc upper (suc k) cs =
-    cond (between rc (getD cs 0 0) upper) (getD cs 0 0 ∷ getD cs 1 0 ∷ kept rc (getD cs 0 0) k (drop 2 cs)) (kept rc (getD cs 0 0) k (drop 2 cs))
-
--- the front of a block that is rewritten: the cell of the count, the version (s, v), and those kept of the k versions from cell start on
-abbrev pub fronted : List ℕ → List ℕ → ℕ → ℕ → ℕ → ℕ → List ℕ
-fronted rc bc s v start k = take 1 bc ++ (s ∷ v ∷ kept rc s k (drop start bc))
-
--- the cells of a block whose versions have the cells ws
-unfoldable pub filled : ℕ → List ℕ → List ℕ
-filled n ws = length ws / 2 ∷ (ws ++ replicate (2 * suc n - length ws) 0)
 
 -- ---- what contracts say
 
@@ -141,21 +121,3 @@ pub record LentBlocks (n m : ℕ) (rs bs : List ℕ) : Type 0 where
   pub reader-cells : length rs ≡ n * 8
   pub block-cells : length bs ≡ m * (width n * 8)
   pub few : n < 2 ^ 32
-
--- what is to be put to the front of a block: one version, and those held of the k versions from cell start on; there is room
-pub record Room (n start k s : ℕ) (rs bs : List ℕ) : Type 0 where
-  pub lent : Lent n rs bs
-  pub behind : 1 ≤ start
-  pub inside : start + 2 * k ≤ width n
-  pub room : length (kept (cells rs) s k (drop start (cells bs))) ≤ 2 * n
-
--- two cells put
-pub record Pair (xs ys : List ℕ) (j s v : ℕ) : Type 0 where
-  pub pair : cells ys ≡ set (set (cells xs) j s) (j + 1) v
-  pub size : length ys ≡ length xs
-
--- the version (s, v) and those kept stand at the front, up to cell r
-pub record Kept (rc : List ℕ) (s v start k : ℕ) (xs ys : List ℕ) (r : ℕ) : Type 0 where
-  pub end : r ≡ 3 + length (kept rc s k (drop start (cells xs)))
-  pub front : take r (cells ys) ≡ fronted rc (cells xs) s v start k
-  pub size : length ys ≡ length xs

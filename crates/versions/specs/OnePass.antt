@@ -8,7 +8,7 @@ use Prim.Native.Nat.{ℕ, zero, suc, _≤_, _<_}
 use native.Mathlib.Omega.{arith}
 use lib.Dec.{eqb, leb, ltb, leb·suc-zero, leb·suc-suc}
 use borrow.Author.Tests.{ltb-true, leb-true, leb-false, lt-ltb, le-ltb, le-leb, lt-leb, eq-eqb, ne-eqb}
-use Rattle.execution.specs.Agreement.{both}
+use Rattle.execution.specs.ReadAgreement.{both}
 use Rattle.model.specs.Lists.{pick, keep, any, all}
 use Rattle.model.specs.Serial.{Version, no-version}
 use Rattle.model.specs.Replica.{newest, as-of, held, prune}
@@ -16,7 +16,7 @@ use Rattle.model.specs.Shape.{falling}
 use Rattle.model.specs.ShapeCheck.{versions-shaped}
 use Rattle.versions.specs.Block.{stamps, between, lower, lowest, chain, trim}
 
-le-or-lt : (a b : ℕ) → (a ≤ b) ⊎ (b < a)
+pub le-or-lt : (a b : ℕ) → (a ≤ b) ⊎ (b < a)
 le-or-lt a b = go′ (leb a b) refl
   where
     go′ : (t : Bool) → leb a b ≡ t → (a ≤ b) ⊎ (b < a)
@@ -99,6 +99,15 @@ lowest-below rc x top = go′ rc top ∙ ap (ltb x top &&_) (sym (all-stamps (λ
         go′ rc (lower top c)
         ∙ ap (_&& all (through (λ r. leb x r) true) rc) (lower-below x top c)
         ∙ and-assoc (ltb x top) (through (λ r. leb x r) true c) (all (through (λ r. leb x r) true) rc)
+
+pub lowest-le : (top : ℕ) (rc : List ℕ) → lowest top rc ≤ top
+unfolding lowest
+lowest-le top [] = omega arith
+lowest-le top (c ∷ rc) = go′ (ltb 0 c && ltb c top) refl (lowest-le (lower top c) rc)
+  where
+    go′ : (b : Bool) → ltb 0 c && ltb c top ≡ b → lowest (cond b c top) rc ≤ cond b c top → lowest (cond b c top) rc ≤ top
+    go′ true e h = let k = both (ltb 0 c) (ltb c top) e in omega (arith, ltb-true c top (k .1))
+    go′ false e h = h
 
 -- ---- falling, neighbour by neighbour
 

@@ -1,24 +1,59 @@
--- Round trips of one block, what pruning leaves alone, and the check on a printed block. Assumes nothing.
+-- One block: what its frame and the check say of it, round trips, and the check on a printed block. Assumes nothing.
 use mathlib.Core.Path.{_≡_, refl, sym, ap, _∙_}
-use mathlib.Core.Bool.{Bool, true, false, cond}
+use mathlib.Core.Bool.{true}
 use mathlib.Core.List.{List, [], _∷_, _++_}
 use Prim.Native.Nat.{ℕ, zero, suc, _+_, _*_, _-_, _^_, _≤_, _<_}
 use native.Mathlib.Omega.{arith}
+use lib.Dec.{leb}
 use lib.ListN.{length, getD, take, drop, replicate, length-append, length-replicate, length-drop, take-append-drop}
 use lib.Seq.{drop-at, drop-drop}
+use mir.Syntax.{w64}
+use mir.Val.{Fits}
 use mir.ValLaws.{toZ-fits}
 use mir.Facts.{toZ-ofZ, ofZ-toZ, fits-ofZ}
-use borrow.Author.Tests.{le-leb, eq-eqb}
-use Rattle.execution.specs.Agreement.{both}
+use borrow.Author.Tests.{le-leb, leb-true}
+use Rattle.execution.specs.ReadAgreement.{both}
 use Rattle.cells.specs.Cells.{cells, uncells, Below}
-use Rattle.cells.specs.Laws.{length-cells-whole, below-drop, below-zeros, cells-uncells, cells-below, uncells-cells}
-use Rattle.cells.specs.Zeros.{zeros-replicate, zeros-true}
-use Rattle.model.specs.Lists.{keep, all}
+use Rattle.cells.specs.CellLaws.{below-drop, below-zeros, cells-uncells}
+use Rattle.cells.specs.Zeros.{zeros, zeros-replicate, zeros-true}
 use Rattle.model.specs.Serial.{Version}
-use Rattle.model.specs.Replica.{held, prune}
-use Rattle.model.specs.ShapeCheck.{versions-shaped}
-use Rattle.versions.specs.Block.{width, versions-in, stamps, held-in, flat, block, Small, framed, block-ok, Ordered}
-use Rattle.versions.specs.Print.{length-flat, fit, count-few, unused-zero, ok-versions}
+use Rattle.model.specs.Shape.{VersionsShape}
+use Rattle.model.specs.ShapeCheck.{versions-shaped, versions-say}
+use Rattle.versions.specs.Block.{width, versions-in, stamps, held-in, flat, block, Small, framed, block-ok}
+
+pub fit : {b : ℕ} → b < 2 ^ 64 → Fits w64 b
+fit h = record { fits = h }
+
+pub length-flat : (vs : List Version) → length (flat vs) ≡ 2 * length vs
+unfolding flat
+length-flat [] = refl
+length-flat (v ∷ vs) = omega (arith, length-flat vs)
+
+-- ---- what a frame says
+
+module _ (n : ℕ) (bc : List ℕ) (f : framed n bc ≡ true) where
+  tests : (leb (getD bc 0 0) (suc n) ≡ true) × (zeros (drop (1 + 2 * getD bc 0 0) bc) ≡ true)
+  unfolding framed
+  tests = both (leb (getD bc 0 0) (suc n)) (zeros (drop (1 + 2 * getD bc 0 0) bc)) f
+
+  pub count-few : getD bc 0 0 ≤ n + 1
+  count-few = omega (arith, leb-true (getD bc 0 0) (suc n) (tests .0))
+
+  pub unused-zero : zeros (drop (1 + 2 * getD bc 0 0) bc) ≡ true
+  unused-zero = tests .1
+
+-- ---- what the check says
+
+module _ (n timestamp : ℕ) (rc bc : List ℕ) (ok : block-ok n timestamp rc bc ≡ true) where
+  parts : (framed n bc ≡ true) × (versions-shaped timestamp (stamps rc) (held-in bc) ≡ true)
+  unfolding block-ok
+  parts = both (framed n bc) (versions-shaped timestamp (stamps rc) (held-in bc)) ok
+
+  pub ok-framed : framed n bc ≡ true
+  ok-framed = parts .0
+
+  pub ok-versions : VersionsShape timestamp (stamps rc) (held-in bc)
+  ok-versions = versions-say timestamp (stamps rc) (held-in bc) .0 (parts .1)
 
 -- ---- parse after print
 
@@ -31,18 +66,6 @@ small-versions (suc k) cs h = (toZ-fits _ (getD cs 1 0) (fit (h 1)), h 0, small-
 pub small-held : (bc : List ℕ) → Below (2 ^ 64) bc → Small (held-in bc)
 unfolding held-in
 small-held bc h = small-versions (getD bc 0 0) (drop 1 bc) (below-drop (2 ^ 64) 1 bc h)
-
-pub small-prune : (rs : List ℕ) (vs : List Version) → Small vs → Small (prune rs vs)
-unfolding prune
-small-prune rs vs h = small-keep (held rs vs) vs h
-  where
-    small-keep : (q : Version → Bool) (vs : List Version) → Small vs → Small (keep q vs)
-    small-keep q [] h = tt
-    small-keep q (v ∷ vs) h = go′ (q v) (small-keep q vs (h .2))
-      where
-        go′ : (b : Bool) → Small (keep q vs) → Small (cond b (v ∷ keep q vs) (keep q vs))
-        go′ true i = (h .0, h .1, i)
-        go′ false i = i
 
 versions-flat : (vs : List Version) (ts : List ℕ) → Small vs → versions-in (length vs) (flat vs ++ ts) ≡ vs
 unfolding versions-in flat
@@ -131,27 +154,3 @@ block-held n bc l b f =
     head : (cs : List ℕ) → 0 < length cs → getD cs 0 0 ∷ drop 1 cs ≡ cs
     head [] h = absurd (omega arith)
     head (c ∷ cs) h = refl
-
--- ---- what pruning leaves alone
-
--- one version is kept, whoever reads
-single : (rs : List ℕ) (bc : List ℕ) → getD bc 0 0 ≡ 1 → prune rs (held-in bc) ≡ held-in bc
-unfolding held-in versions-in prune held
-single rs bc e = rw (e, eq-eqb (getD (drop 1 bc) 0 0) (getD (drop 1 bc) 0 0) refl)
-
-pub prune-single : (n : ℕ) (rs : List ℕ) (xs : List ℕ) → Below 256 xs → length xs ≡ width n * 8 → Ordered n (cells xs) → getD (cells xs) 0 0 ≤ 1 → xs ≡ uncells (block n (prune rs (held-in (cells xs))))
-prune-single n rs xs b l o h =
-    let e : getD (cells xs) 0 0 ≡ 1 = omega (arith, o .least) in
-    sym
-    (ap (λ (vs : List Version). uncells (block n vs)) (single rs (cells xs) e)
-    ∙ ap uncells (block-held n (cells xs) (length-cells-whole (width n) xs l) (cells-below xs b) (o .frame))
-    ∙ uncells-cells xs (width n) b l)
-
--- a block that passes the check: a commit touches only the objects that are stored
-pub prune-same : (n timestamp : ℕ) (rc bc : List ℕ) → block-ok n timestamp rc bc ≡ true → prune (stamps rc) (held-in bc) ≡ held-in bc
-unfolding prune
-prune-same n timestamp rc bc ok = keep-all (held (stamps rc) (held-in bc)) (held-in bc) (ok-versions n timestamp rc bc ok .each)
-  where
-    keep-all : (q : Version → Bool) (vs : List Version) → all q vs ≡ true → keep q vs ≡ vs
-    keep-all q [] h = refl
-    keep-all q (v ∷ vs) h = let k = both (q v) (all q vs) h in rw (k .0, keep-all q vs (k .1))

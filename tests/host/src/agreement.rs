@@ -1,19 +1,20 @@
 //! Three replicas with early orders, work and readers' moments of their own, and equal final deliveries.
 
 use crate::bodies::{valid, value, Taste};
+use crate::calls::Calls;
 use crate::comparison::{same, Difference};
 use crate::coverage::Coverage;
+use crate::face;
 use crate::independent::State;
 use crate::layout::parse;
 use crate::limits::{CLIENTS, STANDARD};
 use crate::random::Random;
-use crate::replica::{Committed, Replica};
 use crate::serial::Serial;
+use jobstore::{raw, Committed, Key, Refusal, Replica};
 
 #[derive(Clone)]
 struct Job {
-    client: u32,
-    sequence: u32,
+    key: Key,
     body: Vec<u8>,
 }
 
@@ -31,10 +32,14 @@ struct Plan {
 
 /// One replica and how far its early deliveries are.
 struct Site {
-    library: Replica,
+    replica: Replica,
     early_order: Vec<usize>,
     operations: u32,
 }
+
+type Delivery = Result<Committed, Refusal>;
+/// The answers of an opening and of a close of readers, where there is one.
+type Readers = (Option<Result<(), Refusal>>, Option<Result<(), Refusal>>);
 
 const SITES: usize = 3;
 /// How far early deliveries run ahead of the final ones.
@@ -43,7 +48,7 @@ const WINDOW: usize = 20;
 fn job(random: &mut Random, next: &mut [u32; CLIENTS], clients: usize, n: usize, taste: Taste) -> Job {
     let client = random.below(clients);
     next[client] += random.pick(&[1, 1, 1, 2, 7]);
-    Job { client: client as u32, sequence: next[client], body: valid(random, n, taste) }
+    Job { key: Key { client: client as u32, sequence: next[client] }, body: valid(random, n, taste) }
 }
 
 fn plan(random: &mut Random) -> Plan {
@@ -73,16 +78,18 @@ fn plan(random: &mut Random) -> Plan {
 
 impl Site {
     fn new(plan: &Plan) -> Result<Site, Difference> {
-        let mut library = Replica::new();
-        same("opening", library.open(plan.values.len() as u32, &plan.values, plan.stamp), 0)?;
-        Ok(Site { library, early_order: Vec::new(), operations: 0 })
+        let replica = Replica::opened(&plan.values, plan.stamp).map_err(|refusal| format!("opening: {refusal}"))?;
+        Ok(Site { replica, early_order: Vec::new(), operations: 0 })
     }
 
     fn early(&mut self, plan: &Plan, index: usize) {
-        let job = &plan.jobs[index];
         self.early_order.push(index);
-        // A spent key is refused, as its final delivery will be.
-        self.library.early(job.client, job.sequence, &job.body);
+        self.take(&plan.jobs[index]);
+    }
+
+    /// A spent key is refused, as its final delivery will be.
+    fn take(&mut self, job: &Job) {
+        self.replica.deliver_early(job.key, &job.body).ok();
     }
 
     /// What this replica happens to do before final delivery `next`, which it has early by then.
@@ -93,11 +100,9 @@ impl Site {
             if random.percent(50) && !self.early_order.contains(&index) {
                 self.early(plan, index);
             } else if !plan.lost.is_empty() && random.percent(10) {
-                let job = random.below(plan.lost.len());
-                let Job { client, sequence, body } = &plan.lost[job];
-                self.library.early(*client, *sequence, body);
+                self.take(&plan.lost[random.below(plan.lost.len())]);
             } else {
-                self.operations += self.library.work(random.between(0, 40) as u32).operations;
+                self.operations += self.replica.work(random.between(0, 40) as u32).map_or(0, |done| done.operations);
             }
         }
         if !self.early_order.contains(&next) {
@@ -106,22 +111,22 @@ impl Site {
     }
 
     /// The readers' calls before final delivery `next`: at every replica between the same two commits.
-    fn readers(&mut self, plan: &Plan, next: usize) -> (Option<u32>, Option<u32>) {
-        let opened = plan.opened[next].map(|reader| self.library.open_reader(reader));
-        let closed = plan.closed[next].map(|reader| self.library.close_reader(reader));
+    fn readers(&mut self, plan: &Plan, next: usize) -> Readers {
+        let opened = plan.opened[next].map(|reader| self.replica.open_reader(reader));
+        let closed = plan.closed[next].map(|reader| self.replica.close_reader(reader));
         (opened, closed)
     }
 
-    fn deliver(&mut self, random: &mut Random, plan: &Plan, next: usize) -> (Committed, (Option<u32>, Option<u32>)) {
+    fn deliver(&mut self, random: &mut Random, plan: &Plan, next: usize) -> (Delivery, Readers) {
         let first = random.percent(50);
         let before = first.then(|| self.readers(plan, next));
         self.meanwhile(random, plan, next);
         let answers = before.unwrap_or_else(|| self.readers(plan, next));
-        (self.library.deliver_final(plan.jobs[next].client, plan.jobs[next].sequence), answers)
+        (self.replica.deliver_final(plan.jobs[next].key), answers)
     }
 
     fn state(&self) -> Result<State, Difference> {
-        parse(STANDARD, &self.library.record, &self.library.bodies).map_err(|sentence| format!("fails: {sentence}"))
+        parse(STANDARD, self.replica.record(), self.replica.bodies()).map_err(|sentence| format!("fails: {sentence}"))
     }
 }
 
@@ -135,12 +140,12 @@ pub fn compare_replicas(seed: u64, coverage: &mut Coverage) -> Result<(), Differ
     for next in 0..plan.jobs.len() {
         let results = sites.iter_mut().map(|site| site.deliver(&mut random, &plan, next));
         let (committed, readers): (Vec<_>, Vec<_>) = results.unzip();
-        let job = &plan.jobs[next];
-        serial.early(job.client, job.sequence, &job.body);
-        let plain = serial.deliver_final(job.client, job.sequence);
+        let Job { key, body } = &plan.jobs[next];
+        serial.early(key.client, key.sequence, body);
+        let plain = serial.deliver_final(key.client, key.sequence);
         for site in 0..SITES {
-            same("final delivery", Committed { kept: 0, ..committed[site] }, plain)?;
-            same("readers' numbers", readers[site], readers[0])?;
+            same("final delivery", raw::Committed { kept: 0, ..face::committed(committed[site]) }, plain)?;
+            same("readers' answers", readers[site], readers[0])?;
         }
         count_delivery(coverage, &committed);
         compare_readings(coverage, &mut random, &sites, plan.values.len())?;
@@ -152,13 +157,12 @@ pub fn compare_replicas(seed: u64, coverage: &mut Coverage) -> Result<(), Differ
     compare_ends(coverage, &sites, &serial)
 }
 
-fn count_delivery(coverage: &mut Coverage, results: &[Committed]) {
-    let Committed { number, outcome, .. } = results[0];
-    if number != 0 {
-        return coverage.count(&format!("all refuse with {number}"));
+fn count_delivery(coverage: &mut Coverage, results: &[Delivery]) {
+    match results[0] {
+        Err(refusal) => return coverage.count(&format!("all refuse with {}", refusal.number())),
+        Ok(committed) => coverage.count(&format!("all commit with outcome {}", committed.outcome.number())),
     }
-    coverage.count(&format!("all commit with outcome {outcome}"));
-    let kept = results.iter().filter(|committed| committed.kept == 1).count();
+    let kept = results.iter().flatten().filter(|committed| committed.kept).count();
     coverage.count(match kept {
         0 => "all run again",
         SITES => "all keep",
@@ -175,11 +179,11 @@ fn compare_readings(
 ) -> Result<(), Difference> {
     for reader in 0..STANDARD.readers as u32 {
         let object = random.below(n) as u32;
-        let reading = sites[0].library.read(reader, object);
+        let reading = sites[0].replica.read(reader, object);
         for site in sites {
-            same("reading", site.library.read(reader, object), reading)?;
+            same("reading", site.replica.read(reader, object), reading)?;
         }
-        coverage.count_if(reading.number == 0, "readings agree");
+        coverage.count_if(reading.is_ok(), "readings agree");
     }
     Ok(())
 }
@@ -197,7 +201,7 @@ fn compare_ends(coverage: &mut Coverage, sites: &[Site; SITES], serial: &Serial)
         }
     }
     if states.iter().all(|state| state.pending.is_empty()) {
-        same("areas byte for byte", sites.iter().all(|site| site.library == sites[0].library), true)?;
+        same("areas byte for byte", sites.iter().all(|site| site.replica == sites[0].replica), true)?;
         coverage.count("nothing pending, all bytes equal");
     } else {
         coverage.count("something pending, equal committed tables");

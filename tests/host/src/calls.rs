@@ -1,7 +1,7 @@
-//! The nine calls and their answers as data, so that lists of calls can be kept, repeated and shortened.
+//! The nine calls: as methods, and with their answers as data, so that lists of calls can be kept, repeated and shortened.
 
 use crate::body::decode;
-use crate::replica::{Committed, Executed, Found, Reading};
+use jobstore::raw::{Committed, Executed, Found, Value};
 use std::fmt;
 
 #[derive(Clone, PartialEq, Eq)]
@@ -22,33 +22,37 @@ pub enum Answer {
     Number(u32),
     Executed(Executed),
     Committed(Committed),
-    Reading(Reading),
+    Value(Value),
     Found(Found),
     Body(Vec<u8>),
 }
 
-/// One call on anything that has the nine methods.
-#[macro_export]
-macro_rules! perform {
-    ($store:expr, $call:expr) => {
-        match $call {
-            $crate::calls::Call::Open { n, values, stamp } => Answer::Number($store.open(*n, values, *stamp)),
-            $crate::calls::Call::Early { client, sequence, body } => {
-                Answer::Number($store.early(*client, *sequence, body))
-            }
-            $crate::calls::Call::Work { count } => Answer::Executed($store.work(*count)),
-            $crate::calls::Call::Final { client, sequence } => {
-                Answer::Committed($store.deliver_final(*client, *sequence))
-            }
-            $crate::calls::Call::OpenReader { reader } => Answer::Number($store.open_reader(*reader)),
-            $crate::calls::Call::Read { reader, object } => Answer::Reading($store.read(*reader, *object)),
-            $crate::calls::Call::CloseReader { reader } => Answer::Number($store.close_reader(*reader)),
-            $crate::calls::Call::Find { client, sequence } => Answer::Found($store.find(*client, *sequence)),
-            $crate::calls::Call::ShowBody { client, sequence } => {
-                Answer::Body($store.show_body(*client, *sequence).to_vec())
-            }
+/// What has the nine calls. Answers are the papers': a number, and what stands beside it.
+pub trait Calls {
+    fn open(&mut self, n: u32, values: &[i64], stamp: u32) -> u32;
+    fn early(&mut self, client: u32, sequence: u32, body: &[u8]) -> u32;
+    fn work(&mut self, count: u32) -> Executed;
+    fn deliver_final(&mut self, client: u32, sequence: u32) -> Committed;
+    fn open_reader(&mut self, reader: u32) -> u32;
+    fn read(&self, reader: u32, object: u32) -> Value;
+    fn close_reader(&mut self, reader: u32) -> u32;
+    fn find(&self, client: u32, sequence: u32) -> Found;
+    /// Empty exactly when `find` refuses.
+    fn show_body(&self, client: u32, sequence: u32) -> &[u8];
+
+    fn perform(&mut self, call: &Call) -> Answer {
+        match *call {
+            Call::Open { n, ref values, stamp } => Answer::Number(self.open(n, values, stamp)),
+            Call::Early { client, sequence, ref body } => Answer::Number(self.early(client, sequence, body)),
+            Call::Work { count } => Answer::Executed(self.work(count)),
+            Call::Final { client, sequence } => Answer::Committed(self.deliver_final(client, sequence)),
+            Call::OpenReader { reader } => Answer::Number(self.open_reader(reader)),
+            Call::Read { reader, object } => Answer::Value(self.read(reader, object)),
+            Call::CloseReader { reader } => Answer::Number(self.close_reader(reader)),
+            Call::Find { client, sequence } => Answer::Found(self.find(client, sequence)),
+            Call::ShowBody { client, sequence } => Answer::Body(self.show_body(client, sequence).to_vec()),
         }
-    };
+    }
 }
 
 impl Call {
@@ -75,7 +79,7 @@ impl Answer {
             Answer::Number(number) => Some(*number),
             Answer::Executed(executed) => Some(executed.number),
             Answer::Committed(committed) => Some(committed.number),
-            Answer::Reading(reading) => Some(reading.number),
+            Answer::Value(value) => Some(value.number),
             Answer::Found(found) => Some(found.number),
             Answer::Body(_) => None,
         }

@@ -1,22 +1,22 @@
-//! The proved library, the independent implementation and the plain table side by side: every answer, and both areas
-//! after every call.
+//! The proved library, by its exports and by the Rust package, the independent implementation and the plain table side
+//! by side: every answer, and both areas after every call.
 
 use crate::body::decode;
-use crate::calls::{Answer, Call};
+use crate::calls::{Answer, Call, Calls};
 use crate::coverage::Coverage;
+use crate::face::Face;
 use crate::independent::{overlay, Independent, Run, State};
 use crate::layout::{parse, print};
+use crate::library::Library;
 use crate::limits::{Limits, STANDARD};
 use crate::lists::Mix;
 use crate::observation::{observe, FIRST_RUN_AGAIN};
-use crate::perform;
 use crate::random::Random;
-use crate::replica::Replica;
 use crate::serial::Serial;
 
 pub struct Comparison {
     pub limits: Limits,
-    pub library: Replica,
+    pub library: Library,
     pub independent: Independent,
     /// Consulted from the first accepted opening on: it is fed arguments only.
     pub serial: Serial,
@@ -36,20 +36,21 @@ pub fn same<T: PartialEq + std::fmt::Debug>(what: &str, library: T, expected: T)
 
 impl Comparison {
     /// From areas with any contents.
-    pub fn new(library: Replica) -> Comparison {
+    pub fn new(library: Library) -> Comparison {
         let limits = STANDARD;
         let mut independent = Independent::new(limits);
         independent.state = parse(limits, &library.record, &library.bodies).ok();
         Comparison { limits, library, independent, serial: Serial::new(limits), coverage: Coverage::default() }
     }
 
-    /// One call on all three; its answer, if nothing differs.
+    /// One call on all of them; its answer, if nothing differs.
     pub fn apply(&mut self, call: &Call) -> Result<Answer, Difference> {
         let before = self.library.clone();
         let state_before = self.independent.state.clone();
-        let answer = perform!(self.library, call);
+        let answer = self.library.perform(call);
         let expected = self.expected(call);
         same("answer", &answer, &expected)?;
+        self.compare_face(call, &before, &answer)?;
         self.compare_serial(call, &answer)?;
         if answer.refused() {
             same("areas changed by a refusal", self.library == before, true)?;
@@ -70,8 +71,18 @@ impl Comparison {
     fn expected(&mut self, call: &Call) -> Answer {
         match call {
             Call::Open { .. } if !self.lengths_fit() => Answer::Number(1),
-            _ => perform!(self.independent, call),
+            _ => self.independent.perform(call),
         }
+    }
+
+    /// The same call by the Rust package. Its opening takes no number of objects beside the values.
+    fn compare_face(&self, call: &Call, before: &Library, answer: &Answer) -> Result<(), Difference> {
+        if matches!(call, Call::Open { n, values, .. } if *n as usize != values.len()) {
+            return Ok(());
+        }
+        let mut face = Face::from(before.clone());
+        same("answer by the Rust package", &face.perform(call), answer)?;
+        same("areas by the Rust package", face.into_areas() == self.library, true)
     }
 
     fn compare_serial(&mut self, call: &Call, answer: &Answer) -> Result<(), Difference> {
@@ -79,7 +90,7 @@ impl Comparison {
         if !opening && !self.serial.opened() {
             return Ok(());
         }
-        let plain = perform!(self.serial, call);
+        let plain = self.serial.perform(call);
         same("answer and the plain table's", &answer.seen(), &plain)?;
         self.compare_tables()
     }
@@ -121,8 +132,8 @@ impl Comparison {
         Ok(())
     }
 
-    fn compare_areas(&self, before: &Replica) -> Result<(), Difference> {
-        let Replica { record, bodies } = &self.library;
+    fn compare_areas(&self, before: &Library) -> Result<(), Difference> {
+        let Library { record, bodies } = &self.library;
         let parsed = parse(self.limits, record, bodies);
         let Some(state) = &self.independent.state else {
             same("unshaped areas changed", &self.library == before, true)?;
@@ -171,7 +182,7 @@ fn early_results(limits: Limits, state: &State) -> Result<(), Difference> {
 pub fn compare_list(seed: u64, coverage: &mut Coverage) -> Result<usize, Difference> {
     let mut random = Random::new(seed);
     let mix = Mix::new(&mut random, STANDARD);
-    let mut comparison = Comparison::new(Replica::new());
+    let mut comparison = Comparison::new(Library::new());
     let mut calls = Vec::new();
     let unopened = if random.percent(10) { random.between(1, 12) } else { 0 };
     let length = random.between(10, 220);
@@ -201,7 +212,7 @@ fn report(seed: u64, difference: &str, calls: Vec<Call>) -> Difference {
 
 /// The calls once more from areas of zeros.
 pub fn repeat(calls: &[Call]) -> Result<(), Difference> {
-    let mut comparison = Comparison::new(Replica::new());
+    let mut comparison = Comparison::new(Library::new());
     calls.iter().try_for_each(|call| comparison.apply(call).map(drop))
 }
 

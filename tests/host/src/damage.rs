@@ -2,30 +2,30 @@
 //! reader of the layout to say; on areas that still pass, the independent implementation takes up what they hold.
 
 use crate::bodies::{valid, value, Taste};
-use crate::calls::Call;
+use crate::calls::{Call, Calls};
 use crate::comparison::{Comparison, Difference};
 use crate::coverage::Coverage;
 use crate::independent::{Independent, State};
 use crate::layout::{self, cell, parse, print, set_cell};
+use crate::library::Library;
 use crate::limits::{Limits, CLIENTS, REGISTERS, STANDARD};
 use crate::lists::Mix;
-use crate::perform;
+use crate::observation::FIRST_RUN_AGAIN;
 use crate::random::Random;
-use crate::replica::Replica;
-use crate::{calls::Answer, observation::FIRST_RUN_AGAIN};
 
 /// A state that some list of calls leads to.
 fn honest(random: &mut Random, mix: &Mix) -> State {
     let mut independent = Independent::new(STANDARD);
-    let _: Answer = perform!(independent, &mix.opening(random));
+    independent.perform(&mix.opening(random));
     for _ in 0..random.between(0, 120) {
-        let _: Answer = perform!(independent, &mix.call(random, independent.state.as_ref()));
+        let call = mix.call(random, independent.state.as_ref());
+        independent.perform(&call);
     }
     independent.state.unwrap()
 }
 
 /// Damages the areas and names the kind of damage.
-fn damage(random: &mut Random, state: &State, areas: &mut Replica) -> &'static str {
+fn damage(random: &mut Random, state: &State, areas: &mut Library) -> &'static str {
     match random.below(12) {
         0 => flip(random, areas),
         1 => noise(random, areas),
@@ -43,7 +43,7 @@ fn damage(random: &mut Random, state: &State, areas: &mut Replica) -> &'static s
     }
 }
 
-fn flip(random: &mut Random, areas: &mut Replica) -> &'static str {
+fn flip(random: &mut Random, areas: &mut Library) -> &'static str {
     let area = if random.percent(60) { &mut areas.record } else { &mut areas.bodies };
     let used: Vec<usize> = (0..area.len()).filter(|&at| area[at] != 0).collect();
     let at = if used.is_empty() || random.percent(30) { random.below(area.len()) } else { random.pick(&used) };
@@ -51,7 +51,7 @@ fn flip(random: &mut Random, areas: &mut Replica) -> &'static str {
     "bit flipped"
 }
 
-fn noise(random: &mut Random, areas: &mut Replica) -> &'static str {
+fn noise(random: &mut Random, areas: &mut Library) -> &'static str {
     let whole = random.percent(20);
     let area = if random.percent(60) { &mut areas.record } else { &mut areas.bodies };
     let start = if whole { 0 } else { random.below(area.len()) };
@@ -61,7 +61,7 @@ fn noise(random: &mut Random, areas: &mut Replica) -> &'static str {
     "bytes overwritten"
 }
 
-fn lengths(random: &mut Random, areas: &mut Replica) -> &'static str {
+fn lengths(random: &mut Random, areas: &mut Library) -> &'static str {
     for area in [&mut areas.record, &mut areas.bodies] {
         let any = random.below(40_000);
         let length = random.pick(&[area.len(), area.len(), area.len() - 1, area.len() + 1, area.len() + 8, 0, any]);
@@ -73,7 +73,7 @@ fn lengths(random: &mut Random, areas: &mut Replica) -> &'static str {
 }
 
 /// Rows or bodies change places, or one is written over another.
-fn exchange(random: &mut Random, state: &State, areas: &mut Replica) -> &'static str {
+fn exchange(random: &mut Random, state: &State, areas: &mut Library) -> &'static str {
     let rows = (state.pending.len() + 1).min(STANDARD.pending);
     let (from, to) = (random.below(rows), random.below(rows));
     let (first, size) = (8 * STANDARD.row(0), 8 * STANDARD.row_cells());
@@ -95,7 +95,7 @@ fn move_part(random: &mut Random, parts: &mut [u8], size: usize, from: usize, to
 }
 
 /// One cell that means something takes a value near what it may hold.
-fn change_cell(random: &mut Random, state: &State, areas: &mut Replica) -> &'static str {
+fn change_cell(random: &mut Random, state: &State, areas: &mut Library) -> &'static str {
     let limits = STANDARD;
     let object = limits.object(random.below(state.objects.len()));
     let place = random.below(state.pending.len().max(1));
@@ -214,7 +214,7 @@ pub fn compare_damaged(seed: u64, coverage: &mut Coverage) -> Result<(), Differe
     let mix = Mix::new(&mut random, STANDARD);
     let state = honest(&mut random, &mix);
     let (record, bodies) = print(STANDARD, &state);
-    let mut areas = Replica { record, bodies };
+    let mut areas = Library { record, bodies };
     let kind = damage(&mut random, &state, &mut areas);
     count_verdict(coverage, STANDARD, kind, &areas, &state);
     let mut comparison = Comparison::new(areas);
@@ -233,7 +233,7 @@ pub fn compare_damaged(seed: u64, coverage: &mut Coverage) -> Result<(), Differe
     Ok(())
 }
 
-fn count_verdict(coverage: &mut Coverage, limits: Limits, kind: &str, areas: &Replica, honest: &State) {
+fn count_verdict(coverage: &mut Coverage, limits: Limits, kind: &str, areas: &Library, honest: &State) {
     match parse(limits, &areas.record, &areas.bodies) {
         Ok(state) if state == *honest => coverage.count(&format!("{kind}: nothing changed")),
         Ok(_) => coverage.count(&format!("{kind}: passes")),

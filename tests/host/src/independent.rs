@@ -2,9 +2,10 @@
 //! It shares no code with the proved library.
 
 use crate::body::{decode, quotient, Operation};
+use crate::calls::Calls;
 use crate::coverage::Coverage;
 use crate::limits::{Limits, CLIENTS, LARGEST_BUDGET, REGISTERS};
-use crate::replica::{Committed, Executed, Found, Reading};
+use jobstore::raw::{Committed, Executed, Found, Value};
 
 #[derive(Clone, Copy, PartialEq, Eq, Debug)]
 pub struct Version {
@@ -208,7 +209,27 @@ impl Independent {
         Independent { limits, state: None, coverage: Coverage::default() }
     }
 
-    pub fn open(&mut self, n: u32, values: &[i64], stamp: u32) -> u32 {
+    fn commit(&mut self, place: usize) -> Committed {
+        let state = self.state.as_mut().unwrap();
+        let table = state.committed();
+        let Transaction { client, sequence, body, run } = state.pending.remove(place);
+        let kept = run.outcome.is_some() && run.matches(&table);
+        let run = if kept { run } else { whole(&body, self.limits, &table, &mut self.coverage) };
+        state.timestamp += 1;
+        for &(object, value) in &run.writes {
+            state.objects[object].push(Version { timestamp: state.timestamp, value });
+        }
+        self.coverage.add("versions that a commit let go", state.prune() as u64);
+        state.last[client as usize] = sequence;
+        state.pending.retain(|pending| pending.client != client || pending.sequence > sequence);
+        self.coverage.add("begun transactions that restarted", state.walk() as u64);
+        let stored = run.writes.len() as u32;
+        Committed { number: 0, outcome: run.outcome.unwrap(), kept: u32::from(kept), stamp: state.timestamp, stored }
+    }
+}
+
+impl Calls for Independent {
+    fn open(&mut self, n: u32, values: &[i64], stamp: u32) -> u32 {
         let n = n as usize;
         if n < 1 || n > self.limits.objects || values.len() != n {
             return 2;
@@ -223,7 +244,7 @@ impl Independent {
         0
     }
 
-    pub fn early(&mut self, client: u32, sequence: u32, body: &[u8]) -> u32 {
+    fn early(&mut self, client: u32, sequence: u32, body: &[u8]) -> u32 {
         let Some(state) = &mut self.state else { return 1 };
         if client as usize >= CLIENTS {
             return 3;
@@ -244,7 +265,7 @@ impl Independent {
         0
     }
 
-    pub fn work(&mut self, count: u32) -> Executed {
+    fn work(&mut self, count: u32) -> Executed {
         let refused = |number| Executed { number, operations: 0, finished: 0 };
         let Some(state) = &mut self.state else { return refused(1) };
         if count > LARGEST_BUDGET {
@@ -266,7 +287,7 @@ impl Independent {
         Executed { number: 0, operations, finished: state.finished() as u32 }
     }
 
-    pub fn deliver_final(&mut self, client: u32, sequence: u32) -> Committed {
+    fn deliver_final(&mut self, client: u32, sequence: u32) -> Committed {
         let refused = |number| Committed { number, outcome: 0, kept: 0, stamp: 0, stored: 0 };
         let Some(state) = &mut self.state else { return refused(1) };
         if client as usize >= CLIENTS {
@@ -282,25 +303,7 @@ impl Independent {
         self.commit(place)
     }
 
-    fn commit(&mut self, place: usize) -> Committed {
-        let state = self.state.as_mut().unwrap();
-        let table = state.committed();
-        let Transaction { client, sequence, body, run } = state.pending.remove(place);
-        let kept = run.outcome.is_some() && run.matches(&table);
-        let run = if kept { run } else { whole(&body, self.limits, &table, &mut self.coverage) };
-        state.timestamp += 1;
-        for &(object, value) in &run.writes {
-            state.objects[object].push(Version { timestamp: state.timestamp, value });
-        }
-        self.coverage.add("versions that a commit let go", state.prune() as u64);
-        state.last[client as usize] = sequence;
-        state.pending.retain(|pending| pending.client != client || pending.sequence > sequence);
-        self.coverage.add("begun transactions that restarted", state.walk() as u64);
-        let stored = run.writes.len() as u32;
-        Committed { number: 0, outcome: run.outcome.unwrap(), kept: u32::from(kept), stamp: state.timestamp, stored }
-    }
-
-    pub fn open_reader(&mut self, reader: u32) -> u32 {
+    fn open_reader(&mut self, reader: u32) -> u32 {
         let Some(state) = &mut self.state else { return 1 };
         match state.readers.get_mut(reader as usize) {
             None => 10,
@@ -312,20 +315,20 @@ impl Independent {
         }
     }
 
-    pub fn read(&self, reader: u32, object: u32) -> Reading {
-        let refused = |number| Reading { number, value: 0 };
+    fn read(&self, reader: u32, object: u32) -> Value {
+        let refused = |number| Value { number, value: 0 };
         let Some(state) = &self.state else { return refused(1) };
         match (state.readers.get(reader as usize), state.objects.get(object as usize)) {
             (None, _) => refused(10),
             (Some(None), _) => refused(12),
             (_, None) => refused(13),
             (Some(Some(timestamp)), Some(versions)) => {
-                Reading { number: 0, value: versions[newest(versions, *timestamp).unwrap()].value }
+                Value { number: 0, value: versions[newest(versions, *timestamp).unwrap()].value }
             }
         }
     }
 
-    pub fn close_reader(&mut self, reader: u32) -> u32 {
+    fn close_reader(&mut self, reader: u32) -> u32 {
         let Some(state) = &mut self.state else { return 1 };
         match state.readers.get_mut(reader as usize) {
             None => 10,
@@ -338,7 +341,7 @@ impl Independent {
         }
     }
 
-    pub fn find(&self, client: u32, sequence: u32) -> Found {
+    fn find(&self, client: u32, sequence: u32) -> Found {
         let refused = |number| Found { number, place: 0, length: 0 };
         let Some(state) = &self.state else { return refused(1) };
         if client as usize >= CLIENTS {
@@ -348,7 +351,7 @@ impl Independent {
         Found { number: 0, place: place as u32, length: state.pending[place].body.len() as u32 }
     }
 
-    pub fn show_body(&self, client: u32, sequence: u32) -> &[u8] {
+    fn show_body(&self, client: u32, sequence: u32) -> &[u8] {
         let Some(state) = &self.state else { return &[] };
         state.place(client, sequence).map_or(&[], |place| &state.pending[place].body)
     }

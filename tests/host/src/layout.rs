@@ -205,7 +205,7 @@ impl Reader<'_> {
         ask(decode(&body, self.limits.operations, state.objects.len()).is_ok(), "bodies well formed")?;
         let run = self.run(index, m, state.objects.len())?;
         let run_before = state.pending.last().map(|before| &before.run);
-        let finished_before = run_before.is_none_or(|before| before.outcome.is_some());
+        let finished_before = run_before.map_or(true, |before| before.outcome.is_some());
         ask(finished_before || run.program_counter == 0, "finished first, then at most one partly run")?;
         Ok(Transaction { client, sequence, body, run })
     }

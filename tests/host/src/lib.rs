@@ -1,21 +1,6 @@
-//! The proved library from Rust, and what it is tested and measured with.
-//!
-//! ```
-//! let mut unit = jobstore::replica::Replica::new();
-//! assert_eq!(unit.open(3, &[10, 20, 30], 0), 0);
-//!
-//! // load object 0 into register 0, set register 1 to 5, add, store object 0
-//! let mut body = vec![4, 0, 0, 0, 2, 1, 0, 3, 0, 1, 1, 0, 0];
-//! body.resize(45, 0);
-//! body[13 + 8] = 5; // the second constant
-//! assert_eq!(unit.early(1, 1, &body), 0);
-//! assert_eq!(unit.work(100).operations, 4);
-//!
-//! let committed = unit.deliver_final(1, 1); // number, outcome, kept, stamp, stored
-//! assert_eq!((committed.outcome, committed.kept, committed.stamp), (0, 1, 1));
-//! unit.open_reader(0);
-//! assert_eq!(unit.read(0, 0).value, 15);
-//! ```
+//! What the proved library is tested and measured with: the papers once more in Rust, random lists of calls, damaged
+//! areas, three replicas, and the benchmark's workload.
+
 pub mod agreement;
 pub mod bodies;
 pub mod body;
@@ -23,14 +8,17 @@ pub mod calls;
 pub mod comparison;
 pub mod coverage;
 pub mod damage;
-pub mod ffi;
+pub mod each_field;
+pub mod face;
+pub mod fields;
 pub mod independent;
 pub mod layout;
+pub mod library;
 pub mod limits;
 pub mod lists;
 pub mod observation;
 pub mod random;
-pub mod replica;
 pub mod serial;
 pub mod settings;
+pub mod specimens;
 pub mod workload;

@@ -170,7 +170,7 @@ impl Mix {
             let any = random.below(most);
             return random.pick(&[any, any, most, most + 1, u32::MAX as usize]) as u32;
         }
-        let fits = |reader: &usize| state.is_none_or(|state| state.readers[*reader].is_some() == open);
+        let fits = |reader: &usize| state.map_or(true, |state| state.readers[*reader].is_some() == open);
         let readers: Vec<usize> = (0..most).filter(fits).collect();
         if readers.is_empty() {
             random.below(most) as u32

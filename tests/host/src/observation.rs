@@ -5,7 +5,7 @@ use crate::calls::{Answer, Call};
 use crate::coverage::Coverage;
 use crate::independent::{overlay, State, Transaction};
 use crate::limits::{Limits, LARGEST_BUDGET};
-use crate::replica::{Committed, Executed};
+use jobstore::raw::{Committed, Executed};
 
 /// Only forged early results lead to it: the walk leaves no first transaction with reads that do not match.
 pub const FIRST_RUN_AGAIN: &str = "final: run again, finished and first in the optimistic order";

@@ -2,8 +2,9 @@
 //! transactions one after another. What the paper leaves out of the comparison (work's counts, kept or run again) is 0.
 
 use crate::body::{decode, quotient, Operation};
+use crate::calls::Calls;
 use crate::limits::{Limits, CLIENTS, LARGEST_BUDGET, REGISTERS};
-use crate::replica::{Committed, Executed, Found, Reading};
+use jobstore::raw::{Committed, Executed, Found, Value};
 
 #[derive(Clone, Copy, PartialEq, Eq, Debug)]
 pub struct Object {
@@ -43,7 +44,34 @@ impl Serial {
         self.pending.iter().position(|pending| pending.client == client && pending.sequence == sequence)
     }
 
-    pub fn open(&mut self, n: u32, values: &[i64], stamp: u32) -> u32 {
+    /// The outcome, and the last value given to each object.
+    fn execute(&self, body: &[u8]) -> (u32, Vec<Option<i64>>) {
+        let program = decode(body, self.limits.operations, self.objects.len()).unwrap();
+        let mut registers = [0i64; REGISTERS];
+        let mut table = vec![None; self.objects.len()];
+        let mut next = 0;
+        while next < program.len() {
+            let operation = program[next];
+            next += 1;
+            match operation {
+                Operation::Load(r, o) => registers[r] = table[o].unwrap_or(self.objects[o].value),
+                Operation::Store(r, o) => table[o] = Some(registers[r]),
+                Operation::Set(r, constant) => registers[r] = constant,
+                Operation::Add(..) | Operation::Subtract(..) => match sum(&registers, operation) {
+                    Ok((r, value)) => registers[r] = value,
+                    Err(_) => return (2, table),
+                },
+                Operation::Skip(r, count) => next += if registers[r] < 0 { count } else { 0 },
+                Operation::Fail => return (1, table),
+                Operation::Divide(r, divisor) => registers[r] = quotient(registers[r], divisor),
+            }
+        }
+        (0, table)
+    }
+}
+
+impl Calls for Serial {
+    fn open(&mut self, n: u32, values: &[i64], stamp: u32) -> u32 {
         if n == 0 || n > self.limits.objects as u32 || values.len() as u64 != u64::from(n) {
             return 2;
         }
@@ -53,7 +81,7 @@ impl Serial {
         0
     }
 
-    pub fn early(&mut self, client: u32, sequence: u32, body: &[u8]) -> u32 {
+    fn early(&mut self, client: u32, sequence: u32, body: &[u8]) -> u32 {
         if client > 15 {
             3
         } else if sequence <= self.last[client as usize] {
@@ -70,11 +98,11 @@ impl Serial {
         }
     }
 
-    pub fn work(&mut self, count: u32) -> Executed {
+    fn work(&mut self, count: u32) -> Executed {
         Executed { number: if count > LARGEST_BUDGET { 14 } else { 0 }, operations: 0, finished: 0 }
     }
 
-    pub fn deliver_final(&mut self, client: u32, sequence: u32) -> Committed {
+    fn deliver_final(&mut self, client: u32, sequence: u32) -> Committed {
         let refused = |number| Committed { number, outcome: 0, kept: 0, stamp: 0, stored: 0 };
         if client > 15 {
             return refused(3);
@@ -100,32 +128,7 @@ impl Serial {
         Committed { number: 0, outcome, kept: 0, stamp: self.timestamp, stored }
     }
 
-    /// The outcome, and the last value given to each object.
-    fn execute(&self, body: &[u8]) -> (u32, Vec<Option<i64>>) {
-        let program = decode(body, self.limits.operations, self.objects.len()).unwrap();
-        let mut registers = [0i64; REGISTERS];
-        let mut table = vec![None; self.objects.len()];
-        let mut next = 0;
-        while next < program.len() {
-            let operation = program[next];
-            next += 1;
-            match operation {
-                Operation::Load(r, o) => registers[r] = table[o].unwrap_or(self.objects[o].value),
-                Operation::Store(r, o) => table[o] = Some(registers[r]),
-                Operation::Set(r, constant) => registers[r] = constant,
-                Operation::Add(..) | Operation::Subtract(..) => match sum(&registers, operation) {
-                    Ok((r, value)) => registers[r] = value,
-                    Err(_) => return (2, table),
-                },
-                Operation::Skip(r, count) => next += if registers[r] < 0 { count } else { 0 },
-                Operation::Fail => return (1, table),
-                Operation::Divide(r, divisor) => registers[r] = quotient(registers[r], divisor),
-            }
-        }
-        (0, table)
-    }
-
-    pub fn open_reader(&mut self, reader: u32) -> u32 {
+    fn open_reader(&mut self, reader: u32) -> u32 {
         match self.readers.get(reader as usize) {
             None => 10,
             Some(Some(_)) => 11,
@@ -136,15 +139,15 @@ impl Serial {
         }
     }
 
-    pub fn read(&self, reader: u32, object: u32) -> Reading {
-        let refused = |number| Reading { number, value: 0 };
+    fn read(&self, reader: u32, object: u32) -> Value {
+        let refused = |number| Value { number, value: 0 };
         let Some(reader) = self.readers.get(reader as usize) else { return refused(10) };
         let Some(copy) = reader else { return refused(12) };
         let Some(object) = copy.get(object as usize) else { return refused(13) };
-        Reading { number: 0, value: object.value }
+        Value { number: 0, value: object.value }
     }
 
-    pub fn close_reader(&mut self, reader: u32) -> u32 {
+    fn close_reader(&mut self, reader: u32) -> u32 {
         match self.readers.get(reader as usize) {
             None => 10,
             Some(None) => 12,
@@ -155,7 +158,7 @@ impl Serial {
         }
     }
 
-    pub fn find(&self, client: u32, sequence: u32) -> Found {
+    fn find(&self, client: u32, sequence: u32) -> Found {
         let refused = |number| Found { number, place: 0, length: 0 };
         if client > 15 {
             return refused(3);
@@ -164,7 +167,7 @@ impl Serial {
         Found { number: 0, place: place as u32, length: self.pending[place].body.len() as u32 }
     }
 
-    pub fn show_body(&self, client: u32, sequence: u32) -> &[u8] {
+    fn show_body(&self, client: u32, sequence: u32) -> &[u8] {
         self.place(client, sequence).map_or(&[], |place| &self.pending[place].body)
     }
 }

@@ -2,30 +2,24 @@
 
 use crate::body::{encode, Operation};
 use crate::random::Random;
+use jobstore::Key;
 use Operation::{Add, Load, Set, Store, Subtract};
 
 pub const OBJECTS: usize = 128;
-/// Pending transactions as a final delivery comes.
-pub const WINDOW: usize = 8;
 /// The hot objects are the first ones.
 const HOT: usize = 8;
 const CLIENTS: usize = 16;
 
 #[derive(Clone, Copy)]
 pub struct Workload {
-    pub name: &'static str,
+    pub seed: u64,
+    /// Pending transactions as a final delivery comes.
+    pub pending: usize,
     pub transactions: usize,
     /// The chance in percent that an object is one of the hot ones.
     pub hot: usize,
-}
-
-pub const UNIFORM: Workload = Workload { name: "2 to 4 of 128 objects", transactions: 2000, hot: 0 };
-pub const HOT_OBJECTS: Workload = Workload { name: "500 jobs, hot objects", transactions: 500, hot: 90 };
-
-#[derive(Clone, Copy, PartialEq, Eq, Debug)]
-pub struct Key {
-    pub client: u32,
-    pub sequence: u32,
+    /// The chance in percent that a final delivery is not of the first in the optimistic order.
+    pub late: usize,
 }
 
 /// A pending transaction is finally delivered, and a new one takes its place at the end.
@@ -59,35 +53,36 @@ fn transfer(random: &mut Random, hot: usize) -> Vec<u8> {
     encode(&body)
 }
 
-/// Each pending transaction has a client of its own, so that a final delivery makes no other one leave.
+/// Up to 16 pending transactions each have a client of their own, so that a final delivery makes no other one leave; with
+/// more, one in the optimistic order makes none leave.
 fn next_key(random: &mut Random, pending: &[Key], last: &mut [u32; CLIENTS]) -> Key {
     loop {
         let client = random.below(CLIENTS);
-        if pending.iter().all(|key| key.client != client as u32) {
+        if pending.iter().filter(|key| key.client == client as u32).count() <= pending.len() / CLIENTS {
             last[client] += 1;
             return Key { client: client as u32, sequence: last[client] };
         }
     }
 }
 
-/// `late` is the chance in percent that a final delivery is not of the first in the optimistic order.
-pub fn plan(workload: Workload, late: usize) -> Plan {
-    let mut random = Random::new(1);
+pub fn plan(workload: Workload) -> Plan {
+    let Workload { seed, pending: window, transactions, hot, late } = workload;
+    let mut random = Random::new(seed);
     let mut last = [0; CLIENTS];
     let mut pending = Vec::new();
     let mut first = Vec::new();
-    for _ in 0..WINDOW {
+    for _ in 0..window {
         let key = next_key(&mut random, &pending, &mut last);
         pending.push(key);
-        first.push((key, transfer(&mut random, workload.hot)));
+        first.push((key, transfer(&mut random, hot)));
     }
     let turn = |_| {
-        let place = if random.percent(late) { random.between(1, WINDOW - 1) } else { 0 };
+        let place = if random.percent(late) { random.between(1, window - 1) } else { 0 };
         let committed = pending.remove(place);
         let delivered = next_key(&mut random, &pending, &mut last);
         pending.push(delivered);
-        Turn { committed, delivered, body: transfer(&mut random, workload.hot) }
+        Turn { committed, delivered, body: transfer(&mut random, hot) }
     };
-    let turns = (0..workload.transactions).map(turn).collect();
+    let turns = (0..transactions).map(turn).collect();
     Plan { first, turns }
 }

@@ -1,19 +1,18 @@
 //! Random lists of calls: the proved library, the independent implementation and the plain table, answers and bytes.
 
-use jobstore::body::{encode, Operation};
-use jobstore::calls::{Answer, Call};
-use jobstore::comparison::{compare_lists, Comparison};
-use jobstore::independent::Independent;
-use jobstore::layout::{parse, print};
-use jobstore::limits::SMALL;
-use jobstore::lists::Mix;
-use jobstore::observation::required;
-use jobstore::perform;
-use jobstore::random::Random;
-use jobstore::replica::{Committed, Executed, Reading, Replica};
-use jobstore::serial::Serial;
-use jobstore::settings::{lists, seed};
-use Operation::{Add, Load, Set, Store};
+use jobstore::raw::{Committed, Executed, Value};
+use jobstore::Body;
+use jobstore_tests::calls::{Answer, Call, Calls};
+use jobstore_tests::comparison::{compare_lists, Comparison};
+use jobstore_tests::independent::Independent;
+use jobstore_tests::layout::{parse, print};
+use jobstore_tests::library::Library;
+use jobstore_tests::limits::SMALL;
+use jobstore_tests::lists::Mix;
+use jobstore_tests::observation::required;
+use jobstore_tests::random::Random;
+use jobstore_tests::serial::Serial;
+use jobstore_tests::settings::{lists, seed};
 
 #[test]
 fn random_lists() {
@@ -24,12 +23,12 @@ fn random_lists() {
 
 /// Objects 10, 20, 30; A, B and C delivered early and worked on.
 fn depot() -> Comparison {
-    let mut all = Comparison::new(Replica::new());
-    let bodies: [&[Operation]; 3] =
-        [&[Load(0, 0), Set(1, 5), Add(0, 1), Store(0, 0)], &[Load(0, 1), Store(0, 2)], &[Load(0, 0), Store(0, 1)]];
+    let mut all = Comparison::new(Library::new());
+    let a = Body::new().load(0, 0).set(1, 5).add(0, 1).store(0, 0);
+    let (b, c) = (Body::new().load(0, 1).store(0, 2), Body::new().load(0, 0).store(0, 1));
     answers(&mut all, Call::Open { n: 3, values: vec![10, 20, 30], stamp: 0 }, Answer::Number(0));
-    for (client, body) in (1..).zip(bodies) {
-        answers(&mut all, Call::Early { client, sequence: 1, body: encode(body) }, Answer::Number(0));
+    for (client, body) in (1..).zip([a, b, c]) {
+        answers(&mut all, Call::Early { client, sequence: 1, body: body.into() }, Answer::Number(0));
     }
     let executed = Executed { number: 0, operations: 8, finished: 3 };
     answers(&mut all, Call::Work { count: 100 }, Answer::Executed(executed));
@@ -50,7 +49,7 @@ fn delivers(finals: [(u32, u32); 3], table: [i64; 3]) {
     }
     answers(&mut all, Call::OpenReader { reader: 6 }, Answer::Number(0));
     for (object, value) in (0..).zip(table) {
-        answers(&mut all, Call::Read { reader: 6, object }, Answer::Reading(Reading { number: 0, value }));
+        answers(&mut all, Call::Read { reader: 6, object }, Answer::Value(Value { number: 0, value }));
     }
 }
 
@@ -70,7 +69,7 @@ fn small_limits() {
         let (mut independent, mut serial) = (Independent::new(SMALL), Serial::new(SMALL));
         let mut call = mix.opening(&mut random);
         for _ in 0..100 {
-            let (answer, plain): (Answer, Answer) = (perform!(independent, &call), perform!(serial, &call));
+            let (answer, plain) = (independent.perform(&call), serial.perform(&call));
             assert_eq!(answer.seen(), plain, "seed {}: {call:?}", seed().wrapping_add(list));
             let state = independent.state.as_ref().unwrap();
             let (record, bodies) = print(SMALL, state);

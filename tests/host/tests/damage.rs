@@ -1,7 +1,7 @@
 //! Damaged and forged areas: refusal 1 exactly where the layout's reader says so, and the method on the others.
 
-use jobstore::damage::{compare_damages, required};
-use jobstore::settings::{lists, seed};
+use jobstore_tests::damage::{compare_damages, required};
+use jobstore_tests::settings::{lists, seed};
 
 #[test]
 fn damaged_areas() {

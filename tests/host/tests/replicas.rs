@@ -1,7 +1,7 @@
 //! Three replicas with different early orders and work, and equal final deliveries.
 
-use jobstore::agreement::{compare_plans, required};
-use jobstore::settings::{lists, seed};
+use jobstore_tests::agreement::{compare_plans, required};
+use jobstore_tests::settings::{lists, seed};
 
 #[test]
 fn three_replicas() {

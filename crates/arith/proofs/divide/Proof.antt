@@ -2,7 +2,7 @@
 use borrow.Author.Needs.{needs}
 use mir.Facts.{toZ-ofZ}
 use Rattle.arith.specs.Integer.{quotient}
-use Rattle.arith.specs.Laws.{read-back, rounded-le}
+use Rattle.arith.specs.IntegerLaws.{read-back, rounded-le}
 use Rattle.arith.proofs.divide.Statement.{statement}
 use Rattle.arith.proofs.divide.Tie as tie
 

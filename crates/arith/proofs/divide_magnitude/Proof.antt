@@ -3,7 +3,7 @@ use borrow.Author.Needs.{needs}
 use native.Mathlib.Omega.{arith}
 use native.Mathlib.Nat.{mod-lt}
 use mathlib.Core.Path.{sym, _∙_}
-use Rattle.arith.specs.Laws.{rounded-le}
+use Rattle.arith.specs.IntegerLaws.{rounded-le}
 use Rattle.arith.proofs.divide_magnitude.Statement.{statement}
 use Rattle.arith.proofs.divide_magnitude.Tie as tie
 

@@ -6,7 +6,7 @@ use mathlib.Core.Path.{_∙_}
 use lib.IntN.{negsuc}
 use mir.Syntax.{w64}
 use mir.Facts.{toZ-pos}
-use Rattle.arith.specs.Laws.{read-back}
+use Rattle.arith.specs.IntegerLaws.{read-back}
 use Rattle.arith.proofs.Sides.{low, high, flip-pos, side-low, natAbs-low, natAbs-high}
 use Rattle.arith.proofs.on_side.Statement.{statement}
 use Rattle.arith.proofs.on_side.Tie as tie

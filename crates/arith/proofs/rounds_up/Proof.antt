@@ -1,7 +1,7 @@
 -- `arith::rounds_up` meets its contract, which is its own test. Assumes nothing.
 use borrow.Author.Needs.{needs}
 use mathlib.Core.Path.{refl}
-use Rattle.arith.specs.Integer.{roundsUp}
+use Rattle.arith.specs.Integer.{rounds-up}
 use Rattle.arith.proofs.rounds_up.Statement.{statement}
 use Rattle.arith.proofs.rounds_up.Tie as tie
 
@@ -9,7 +9,7 @@ mul-result : tie.Need-mul-result
 mul-result c = search needs
 
 returns : tie.Need-returns
-unfolding roundsUp
+unfolding rounds-up
 returns c = refl
 
 pub rounds-up-spec : {M : Type 1} → statement M

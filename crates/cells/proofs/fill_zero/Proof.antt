@@ -5,7 +5,7 @@ use mathlib.Core.List.{List}
 use lib.Seq.{paste, paste-zero}
 use lib.ListN.{length, getD, replicate, length-set, length-replicate, getD-replicate}
 use borrow.Author.Needs.{needs}
-use Rattle.cells.specs.Blocks.{copy-step, copy-done}
+use Rattle.cells.specs.BlockMoves.{copy-step, copy-done}
 use Rattle.cells.proofs.fill_zero.Statement.{statement}
 use Rattle.cells.proofs.fill_zero.Tie as tie
 

@@ -6,7 +6,7 @@ use native.Mathlib.Omega.{arith}
 use lib.ListN.{length, take, drop, getD, length-set, length-drop}
 use lib.Seq.{paste, paste-zero, drop-paste, getD-take, getD-drop, length-take-le}
 use borrow.Author.Needs.{needs}
-use Rattle.cells.specs.Blocks.{copy-step, copy-done}
+use Rattle.cells.specs.BlockMoves.{copy-step, copy-done}
 use Rattle.cells.proofs.move_down.Statement.{statement}
 use Rattle.cells.proofs.move_down.Tie as tie
 

@@ -8,9 +8,10 @@ use mir.Syntax.{w64}
 use mir.Val.{ofZ}
 use denote.Ref.{now}
 use borrow.Author.Count.{below-more}
-use Rattle.arith.specs.Laws.{same-bits}
-use Rattle.execution.specs.Run.{tableOf}
-use Rattle.execution.specs.Tables.{matches-all, matches-not}
+use Rattle.arith.specs.IntegerLaws.{same-bits}
+use Rattle.execution.specs.Run.{table-of}
+use Rattle.execution.specs.Arrays.{nth-entry, entries}
+use Rattle.execution.specs.TableLaws.{all-match, one-differs}
 use Rattle.execution.proofs.matches.Statement.{statement}
 use Rattle.execution.proofs.matches.Tie as tie
 
@@ -40,12 +41,13 @@ element-copy-out-read : tie.Need-element-copy-out-read Inv-loop μ-loop
 element-copy-out-read c = omega arith
 
 returns : tie.Need-returns Inv-loop μ-loop
+unfolding entries
 returns c =
     let l = c .before .before .before .before .before in
     let a = l .before .args in
     let v = c .before .before .value-in in
     sym
-    (matches-not (tableOf (now (a .table))) (now (a .ro)) (now (a .rv)) (a .count) (l .loop .k) (omega arith) (λ e. c .if1 .taken (ap (ofZ w64) (v .ensures ∙ e))))
+    (one-differs (table-of (now (a .table))) (nth-entry (now (a .ro)) (now (a .rv))) (a .count) (l .loop .k) (omega arith) (λ e. c .if1 .taken (ap (ofZ w64) (v .ensures ∙ e))))
 
 add-k : tie.Need-add-k Inv-loop μ-loop
 add-k c = omega arith
@@ -60,11 +62,11 @@ loop-again c =
     (omega arith, below-more _ _ (l .loop .inv .1) (sym (v .ensures) ∙ same-bits (v .ok) (c .before .read .given) (c .if1 .left)))
 
 returns-2 : tie.Need-returns-2 Inv-loop μ-loop
+unfolding entries
 returns-2 c =
     let l = c .before in
     let a = l .before .args in
-    sym
-    (matches-all (tableOf (now (a .table))) (now (a .ro)) (now (a .rv)) (a .count) (λ k h. l .loop .inv .1 k (omega arith)))
+    sym (all-match (table-of (now (a .table))) (nth-entry (now (a .ro)) (now (a .rv))) (a .count) (λ k h. l .loop .inv .1 k (omega arith)))
 
 pub matches-spec : {M : Type 1} → statement M
 matches-spec =

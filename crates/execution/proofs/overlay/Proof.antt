@@ -2,21 +2,23 @@
 use mathlib.Core.Path.{_≡_, subst}
 use Prim.Native.Nat.{suc, _<_, _-_}
 use native.Mathlib.Omega.{arith}
-use lib.ListN.{length, getD}
+use lib.ListN.{getD}
 use denote.Ref.{now}
-use Rattle.arith.specs.Laws.{read-back}
-use Rattle.execution.specs.Tables.{Laid, laid-none, in-table, laid-one, laid-all}
+use Rattle.arith.specs.IntegerLaws.{read-back}
+use Rattle.execution.specs.Run.{object-count}
+use Rattle.execution.specs.Arrays.{nth-entry, entries}
+use Rattle.execution.specs.TableLaws.{Laid, laid-none, in-table, laid-one, laid-all}
 use Rattle.execution.proofs.overlay.Statement.{statement}
 use Rattle.execution.proofs.overlay.Tie as tie
 
 abbrev Inv-loop : tie.InvT-loop
-Inv-loop table₀ wo wv count i₀ table i = Laid count wo wv table₀ table i
+Inv-loop table₀ wo wv count i₀ table i = Laid (nth-entry wo wv) count table₀ table i
 
 abbrev μ-loop : tie.MeasureT-loop
 μ-loop table₀ wo wv count i₀ table i = i
 
 loop-holds : tie.Need-loop-holds Inv-loop μ-loop
-loop-holds c = let a = c .args in laid-none (a .count) (now (a .wo)) (now (a .wv)) (now (a .table))
+loop-holds c = let a = c .args in laid-none (nth-entry (now (a .wo)) (now (a .wv))) (a .count) (now (a .table))
 
 sub-i : tie.Need-sub-i Inv-loop μ-loop
 sub-i c = omega arith
@@ -34,12 +36,13 @@ element-copy-out-table : tie.Need-element-copy-out-table Inv-loop μ-loop
 element-copy-out-table c = omega arith
 
 -- the object of the entry at i - 1
-here : (c : tie.In-loop Inv-loop μ-loop) → (let l = c .before in let a = l .before .args in getD (now (a .wo)) (l .loop .i - 1) 0 < length (now (a .table)))
+here : (c : tie.In-loop Inv-loop μ-loop) → (let l = c .before in let a = l .before .args in getD (now (a .wo)) (l .loop .i - 1) 0 < object-count (now (a .table)))
+unfolding entries
 here c =
     let l = c .before in
     let a = l .before .args in
     let w = l .loop .inv .within in
-    in-table (a .count) (now (a .wo)) (now (a .wv)) (now (a .table)) (l .before .pre .1) (l .loop .i - 1) (omega arith)
+    in-table (nth-entry (now (a .wo)) (now (a .wv))) (a .count) (now (a .table)) (l .before .pre .1) (l .loop .i - 1) (omega arith)
 
 mul-t11 : tie.Need-mul-t11 Inv-loop μ-loop
 mul-t11 c = omega (arith, here (c .before .before))
@@ -54,20 +57,24 @@ loop-again : tie.Need-loop-again Inv-loop μ-loop
 loop-again c =
     let l = c .before .before .before in
     let a = l .before .args in
-    let k : l .loop .i ≡ suc (l .loop .i - 1) = omega arith in
-    rw (read-back (c .table .given)) (laid-one (a .count) (now (a .wo)) (now (a .wv)) (now (a .table)) (l .loop .table) (l .loop .i - 1) (let w = l .loop .inv .within in omega arith) (here (c .before .before)) (subst (Laid (a .count) (now (a .wo)) (now (a .wv)) (now (a .table)) (l .loop .table)) k (l .loop .inv)))
+    let f = nth-entry (now (a .wo)) (now (a .wv)) in
+    let i = l .loop .i - 1 in
+    let next : l .loop .i ≡ suc i = omega arith in
+    let w = l .loop .inv .within in
+    rw (read-back (c .table .given))
+    (laid-one f (a .count) (now (a .table)) (l .loop .table) i (omega arith) (here (c .before .before)) (subst (Laid f (a .count) (now (a .table)) (l .loop .table)) next (l .loop .inv)))
 
 same-length : tie.Need-same-length Inv-loop μ-loop
 same-length c = c .before .loop .inv .same
 
 returns : tie.Need-returns Inv-loop μ-loop
+unfolding entries
 returns c =
     let l = c .before in
     let a = l .before .args in
-    let z : l .loop .i ≡ 0 = omega arith in (
-      laid-all (a .count) (now (a .wo)) (now (a .wv)) (now (a .table)) (l .loop .table) (subst (Laid (a .count) (now (a .wo)) (now (a .wv)) (now (a .table)) (l .loop .table)) z (l .loop .inv)),
-      l .loop .inv .same,
-    )
+    let f = nth-entry (now (a .wo)) (now (a .wv)) in
+    let none-left : l .loop .i ≡ 0 = omega arith in
+    (laid-all f (a .count) (now (a .table)) (l .loop .table) (subst (Laid f (a .count) (now (a .table)) (l .loop .table)) none-left (l .loop .inv)), l .loop .inv .same)
 
 pub overlay-spec : {M : Type 1} → statement M
 overlay-spec =

@@ -2,7 +2,7 @@
 use denote.Ref.{now}
 use borrow.Author.Needs.{needs}
 use Rattle.model.specs.Limits.{standard}
-use Rattle.ffi.specs.ShowBody.{low, shown-part}
+use Rattle.ffi.specs.ExportedPart.{low, shown-part}
 use Rattle.ffi.proofs.jobstore_show_body.Statement.{statement}
 use Rattle.ffi.proofs.jobstore_show_body.Tie as tie
 

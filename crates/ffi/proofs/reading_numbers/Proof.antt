@@ -2,7 +2,7 @@
 use mathlib.Core.Path.{refl}
 use borrow.Author.Needs.{needs}
 use Rattle.model.specs.Calls.{numbers}
-use Rattle.arith.specs.Laws.{read-back}
+use Rattle.arith.specs.IntegerLaws.{read-back}
 use Rattle.ffi.specs.Exported.{turned-back}
 use Rattle.ffi.proofs.reading_numbers.Statement.{statement}
 use Rattle.ffi.proofs.reading_numbers.Tie as tie

@@ -1,55 +1,133 @@
--- `final_delivery::commit_at` meets its contract: the committed state is read, and the commit goes on with it.
+-- `final_delivery::commit_at` meets its contract: each step leaves what the next one asks.
 use mathlib.Core.Path.{refl}
+use native.Mathlib.Omega.{arith}
 use borrow.Author.Needs.{needs}
-use Rattle.commit.specs.Commit.{found-laid, values-few, values-lent, found-tabled}
+use Rattle.final_delivery.specs.Commit.{found-laid, found-before, found-few, found-deciding, outcome-small, stored-few, found-publishing, found-marking, found-paired, found-walking, found-done}
 use Rattle.final_delivery.proofs.commit_at.Statement.{statement}
 use Rattle.final_delivery.proofs.commit_at.Tie as tie
 
-committed-values-requires : tie.Need-committed-values-requires
-committed-values-requires c κs =
-    let b = c .before .before .before .before in
-    let p = b .pre .1 in
-    (b .pre .0 .0, found-laid (b .args .l) (b .pre .0 .0) (b .pre .0 .1) (b .args .records .now) (b .args .bodies .now) (b .args .client) (b .args .position) p, refl)
+-- ---- waypoints, each the step before
 
-array-borrow-prefix-values : tie.Need-array-borrow-prefix-values
-array-borrow-prefix-values c =
-    let b = c .before .before .before .before .before in
-    let p = b .pre .1 in
-    values-few (b .args .l) (b .pre .0 .0) (b .pre .0 .1) (b .args .records .now) (b .args .bodies .now) (b .args .client) (b .args .position) p (c .committed-values .result) _ (c .committed-values .ensures)
+abbrev start : tie.After-committed-places → tie.Start
+start k = k .before .before .before .before .before
 
-slice-aggregate-table : tie.Need-slice-aggregate-table
-slice-aggregate-table c =
-    let b = c .before .before .before .before .before .before in
-    let p = b .pre .1 in
-    values-lent (b .args .l) (b .pre .0 .0) (b .pre .0 .1) (b .args .records .now) (b .args .bodies .now) (b .args .client) (b .args .position) p (c .before .committed-values .result) _ (c .before .committed-values .ensures)
+abbrev placed : tie.After-decide → tie.After-committed-places
+placed k = k .before .before .before .before .before .before
 
-commit-on-requires : tie.Need-commit-on-requires
-commit-on-requires c κs =
-    let b = c .before .before .before .before .before .before .before .before in
-    let p = b .pre .1 in
-    (b .pre .0, found-tabled (b .args .l) (b .pre .0 .0) (b .pre .0 .1) (b .args .records .now) (b .args .bodies .now) (b .args .client) (b .args .position) p (c .before .before .before .committed-values .result) _ (c .before .before .before .committed-values .ensures))
+abbrev decided : tie.After-next-timestamp → tie.After-decide
+decided k = k .before .before
 
-same-length : tie.Need-same-length
-same-length c =
-    search needs
+abbrev timed : tie.After-publish → tie.After-next-timestamp
+timed k = k .before .before .before .before
 
-same-length-2 : tie.Need-same-length-2
-same-length-2 c =
-    search needs
+abbrev published : tie.After-mark → tie.After-publish
+published k = k .before .before .before .before
+
+abbrev marked : tie.After-leave → tie.After-mark
+marked k = k .before .before .before .before .before
+
+-- ---- the needs
+
+committed-places-requires : tie.Need-committed-places-requires
+committed-places-requires c κs =
+    let s = c .before .before .before .before in
+    (s .pre .0 .0, (found-laid (s .pre .0 .0) (s .pre .0 .1) (s .pre .1), refl))
+
+decide-requires : tie.Need-decide-requires
+decide-requires c κs =
+    let places = c .before .before .before .before .before in
+    let s = start places in
+    (s .pre .0, (found-deciding (s .pre .0 .0) (s .pre .0 .1) (s .pre .1) (places .committed-places .ensures), record { objects = refl; values = refl }))
+
+next-timestamp-requires : tie.Need-next-timestamp-requires
+next-timestamp-requires c κs = let s = c .before .before .before .before .before .before .before .before .before .before .before .before in found-before (s .pre .0 .0) (s .pre .0 .1) (s .pre .1)
+
+publish-requires : tie.Need-publish-requires
+publish-requires c κs =
+    let time = c .before .before .before in
+    let decision = decided time in
+    let places = placed decision in
+    let s = start places in
+    let few = stored-few (s .pre .0 .0) (s .pre .0 .1) (s .pre .1) (places .committed-places .ensures) (decision .decide .ensures) in
+    ((found-few (s .pre .0 .0) (s .pre .0 .1) (s .pre .1), few), found-publishing (s .pre .0 .0) (s .pre .0 .1) (s .pre .1) (places .committed-places .ensures) (decision .decide .ensures) (time .next-timestamp .ensures))
+
+mark-requires : tie.Need-mark-requires
+mark-requires c κs =
+    let writes = c .before .before .before in
+    let time = timed writes in
+    let decision = decided time in
+    let places = placed decision in
+    let s = start places in
+    (s .pre .0 .0, found-marking (s .pre .0 .0) (s .pre .0 .1) (s .pre .1) (places .committed-places .ensures) (decision .decide .ensures) (time .next-timestamp .ensures) (writes .publish .ensures))
+
+leave-requires : tie.Need-leave-requires
+leave-requires c κs =
+    let numbers = c .before .before .before .before in
+    let writes = published numbers in
+    let time = timed writes in
+    let decision = decided time in
+    let places = placed decision in
+    let s = start places in
+    (s .pre .0 .0, found-paired (s .pre .0 .0) (s .pre .0 .1) (s .pre .1) (places .committed-places .ensures) (decision .decide .ensures) (time .next-timestamp .ensures) (writes .publish .ensures) (numbers .mark .ensures))
+
+walk-requires : tie.Need-walk-requires
+walk-requires c κs =
+    let queue = c .before .before .before .before .before .before in
+    let numbers = marked queue in
+    let writes = published numbers in
+    let time = timed writes in
+    let decision = decided time in
+    let places = placed decision in
+    let s = start places in
+    (s .pre .0 .0, found-walking (s .pre .0 .0) (s .pre .0 .1) (s .pre .1) (places .committed-places .ensures) (decision .decide .ensures) (time .next-timestamp .ensures) (writes .publish .ensures) (numbers .mark .ensures) (queue .leave .ensures))
+
+cast-t39 : tie.Need-cast-t39
+cast-t39 c =
+    let decision = c .before .before .before .before .before .before .before .before .before .before .before .before .before .before .before .before .before .before .before .before .before .before .before .before .before in
+    let places = placed decision in
+    let s = start places in
+    omega (arith, outcome-small (s .pre .0 .0) (s .pre .0 .1) (s .pre .1) (places .committed-places .ensures) (decision .decide .ensures))
+
+cast-t40 : tie.Need-cast-t40
+cast-t40 c =
+    let decision = c .before .before .before .before .before .before .before .before .before .before .before .before .before .before .before .before .before .before .before .before .before .before .before .before .before in
+    let places = placed decision in
+    let s = start places in
+    omega (arith, stored-few (s .pre .0 .0) (s .pre .0 .1) (s .pre .1) (places .committed-places .ensures) (decision .decide .ensures))
 
 returns : tie.Need-returns
 returns c =
-    let b = c .before .before .before .before .before .before .before .before .before .before .before .before .before .before in
-    λ p. c .before .before .before .before .before .commit-on .ensures (found-tabled (b .args .l) (b .pre .0 .0) (b .pre .0 .1) (b .args .records .now) (b .args .bodies .now) (b .args .client) (b .args .position) p (c .before .before .before .before .before .before .before .before .before .committed-values .result) _ (c .before .before .before .before .before .before .before .before .before .committed-values .ensures))
+    let queue = c .before .before .before .before .before .before .before .before .before .before in
+    let numbers = marked queue in
+    let writes = published numbers in
+    let time = timed writes in
+    let decision = decided time in
+    let places = placed decision in
+    let s = start places in
+    record {
+      answered = λ p. found-done (s .pre .0 .0) (s .pre .0 .1) p (places .committed-places .ensures) (decision .decide .ensures) (time .next-timestamp .ensures) (writes .publish .ensures) (numbers .mark .ensures) (queue .leave .ensures)
+          (c .before .before .before .walk .ensures) refl refl refl refl;
+    }
+
+same-length : tie.Need-same-length
+same-length c = search needs
+
+same-length-2 : tie.Need-same-length-2
+same-length-2 c = search needs
 
 pub commit-at-spec : {M : Type 1} → statement M
 commit-at-spec =
     tie.close
     (tie.spec
-    committed-values-requires
-    array-borrow-prefix-values
-    slice-aggregate-table
-    commit-on-requires
+    committed-places-requires
+    decide-requires
+    next-timestamp-requires
+    publish-requires
+    mark-requires
+    leave-requires
+    walk-requires
+    cast-t39
+    cast-t40
     same-length
     same-length-2
     returns)

@@ -1,160 +1,168 @@
--- `final_delivery::decide` meets its contract: the run on record is loaded and tested; kept, or the body run whole.
+-- `final_delivery::decide` meets its contract: where the early results are validated their writes are loaded, else the body is run.
 use mathlib.Core.Path.{_≡_, refl}
 use native.Mathlib.Omega.{arith}
 use borrow.Author.Needs.{needs}
-use Rattle.operation.specs.Body.{registerCount}
-use Rattle.commit.specs.Walk.{row-ends, lent-readable, loaded-run, loaded-few}
-use Rattle.commit.specs.Decide.{decide-there, body-begins, body-ends, lent-some, lent-formed, decided-as, decided-kept, decided-again}
+use Rattle.layout.specs.Offsets.{row-at, body-at}
+use Rattle.layout.specs.Holds.{holds-long}
+use Rattle.final_delivery.specs.Decide.{decided-as, decide-there, body-begins, body-few, body-ends, lent-some, rerunning, decide-lying, decide-reads, writes-few, writes-inside, writes-loaded, decided-kept, decided-again}
 use Rattle.final_delivery.proofs.decide.Statement.{statement}
 use Rattle.final_delivery.proofs.decide.Tie as tie
 
-four : 4 ≡ registerCount
-unfolding registerCount
-four = refl
+-- ---- waypoints: the body, and the row's counts
 
-row-at-requires : tie.Need-row-at-requires
-row-at-requires c κs =
-    let b = c .before .before in
-    let p = b .pre .1 .0 in
-    let h = decide-there (b .args .l) (b .pre .0) (b .args .records .now) (b .args .bodies .now) (b .args .position) (b .args .table .now) p in
-    (b .pre .0, omega arith)
+abbrev start : tie.After-body-length → tie.Start
+start k = k .before .before .before .before .before .before
 
-mul-row : tie.Need-mul-row
-mul-row c =
-    search needs
+first : (k : tie.After-body-length) → k .before .before .body-at .result ≡ body-at (start k .args .l) (start k .args .position .0)
+first k = k .before .before .body-at .ensures .exact
 
-row-width-requires : tie.Need-row-width-requires
-row-width-requires c κs =
-    search needs
+abbrev counted : tie.After-counts-at → tie.After-body-length
+counted k = k .before .before .before
 
-mul-row-end : tie.Need-mul-row-end
-mul-row-end c =
-    search needs
+row : (k : tie.After-counts-at) → k .before .row-at .result ≡ row-at (start (counted k) .args .l) (start (counted k) .args .position .0)
+row k = k .before .row-at .ensures .exact
 
-add-row-end : tie.Need-add-row-end
-add-row-end c =
-    search needs
+-- ---- the body
 
 body-at-requires : tie.Need-body-at-requires
-body-at-requires c κs =
-    let b = c .before .before .before .before in
-    let p = b .pre .1 .0 in
-    let h = decide-there (b .args .l) (b .pre .0) (b .args .records .now) (b .args .bodies .now) (b .args .position) (b .args .table .now) p in
-    (b .pre .0, omega arith)
+body-at-requires c κs = let s = c .before .before .before in (s .pre .0 .0, omega (arith, decide-there (s .pre .0 .0) (s .pre .0 .1) (s .pre .1 .0)))
 
-shared-slice-read-operations : tie.Need-shared-slice-read-operations
-shared-slice-read-operations c =
-    let b = c .before .before .before .before .before .before in
-    let p = b .pre .1 .0 in
-    body-begins (b .args .l) (b .pre .0) (b .args .records .now) (b .args .bodies .now) (b .args .position) (b .args .table .now) p (c .before .body-at .result) (c .before .body-at .ensures .exact)
+shared-slice-read-body-length : tie.Need-shared-slice-read-body-length
+shared-slice-read-body-length c =
+    let s = c .before .before .before .before .before in
+    body-begins (s .pre .0 .0) (s .pre .0 .1) (s .pre .1 .0) (c .before .body-at .ensures .exact)
 
-cast-operations : tie.Need-cast-operations
-cast-operations c =
-    omega (arith, c .shared-slice-known3 .given (c .before .body-at .result))
+cast-body-length : tie.Need-cast-body-length
+cast-body-length c =
+    let s = c .before .before .before .before .before in
+    omega (arith, body-few (s .pre .0 .0) (s .pre .0 .1) (s .pre .1 .0) (c .before .body-at .ensures .exact) refl refl)
+
+body-length-requires : tie.Need-body-length-requires
+body-length-requires c κs =
+    let s = c .before .before .before .before .before in
+    omega (arith, body-few (s .pre .0 .0) (s .pre .0 .1) (s .pre .1 .0) (c .before .body-at .ensures .exact) refl refl)
 
 add-end : tie.Need-add-end
 add-end c =
-    search needs
-
-mul-end : tie.Need-mul-end
-mul-end c =
-    omega (arith, c .shared-slice-known3 .given (c .before .body-at .result))
-
-add-end-2 : tie.Need-add-end-2
-add-end-2 c =
-    let a = c .before .body-at .ensures in
-    omega (arith, c .shared-slice-known3 .given (c .before .body-at .result))
+    let s = start c in
+    omega (arith, body-ends (s .pre .0 .0) (s .pre .0 .1) (s .pre .1 .0) (first c) refl (c .body-length .ensures))
 
 sub-body : tie.Need-sub-body
-sub-body c =
-    search needs
+sub-body c = omega arith
 
 part-body-start : tie.Need-part-body-start
-part-body-start c =
-    search needs
+part-body-start c = omega arith
 
 part-body-end : tie.Need-part-body-end
 part-body-end c =
-    let b = c .before .before .before .before .before .before in
-    let p = b .pre .1 .0 in
-    body-ends (b .args .l) (b .pre .0) (b .args .records .now) (b .args .bodies .now) (b .args .position) (b .args .table .now) p (c .before .body-at .result) (c .before .body-at .ensures .exact) _ refl
+    let s = start c in
+    body-ends (s .pre .0 .0) (s .pre .0 .1) (s .pre .1 .0) (first c) refl (c .body-length .ensures)
 
-sub-load-row : tie.Need-sub-load-row
-sub-load-row c =
-    search needs
+-- ---- the row
 
-part-load-row-start : tie.Need-part-load-row-start
-part-load-row-start c =
-    search needs
+row-at-requires : tie.Need-row-at-requires
+row-at-requires c κs = let s = c .before .before .before .before .before .before .before in (s .pre .0 .0, omega (arith, decide-there (s .pre .0 .0) (s .pre .0 .1) (s .pre .1 .0)))
 
-part-load-row-end : tie.Need-part-load-row-end
-part-load-row-end c =
-    let b = c .before .before .before .before .before .before .before in
-    let p = b .pre .1 .0 in
-    row-ends (b .args .l) (b .pre .0) (b .args .records .now) (p .replica) (p .holds) (b .args .position) (p .there) (c .before .before .before .before .row-at .result) (c .before .before .before .row-width .result) (c .before .before .before .before .row-at .ensures .exact) (c .before .before .before .row-width .ensures)
-
-load-row-requires : tie.Need-load-row-requires
-load-row-requires c κs =
-    let b = c .before .before .before .before .before .before .before .before .before .before .before .before .before in
-    let p = b .pre .1 .0 in
-    (lent-readable (b .args .l) (b .pre .0) (b .args .records .now) (p .replica) (p .holds) (b .args .position) (p .there) (c .before .before .before .before .before .before .before .before .before .before .row-at .result) (c .before .before .before .before .before .before .before .before .before .row-width .result) (c .before .before .before .before .before .before .before .before .before .before .row-at .ensures .exact) (c .before .before .before .before .before .before .before .before .before .row-width .ensures) (p .few), four, record { objects = refl; values = refl }, b .pre .1 .1)
+counts-at-requires : tie.Need-counts-at-requires
+counts-at-requires c κs = let s = c .before .before .before .before .before .before .before .before in decide-lying (s .pre .0 .0) (s .pre .0 .1) (s .pre .1 .0) (c .row-at .ensures .exact)
 
 is-validated-requires : tie.Need-is-validated-requires
 is-validated-requires c κs =
-    let b = c .before .before .before .before .before .before .before .before .before .before .before .before .before .before .before .before in
-    let p = b .pre .1 .0 in
-    (loaded-few (b .args .l) (b .pre .0) (b .args .records .now) (p .replica) (p .holds) (b .args .position) (p .there) (c .before .before .before .before .before .before .before .before .before .before .before .before .before .row-at .result) (c .before .before .before .before .before .before .before .before .before .before .before .before .row-width .result) (c .before .before .before .before .before .before .before .before .before .before .before .before .before .row-at .ensures .exact) (c .before .before .before .before .before .before .before .before .before .before .before .before .row-width .ensures) (c .before .before .load-row .result) _ _ _ _ _ (c .before .before .load-row .ensures) (p .few) .0, lent-some (b .args .l) (b .pre .0) (b .args .records .now) (b .args .bodies .now) (b .args .position) (b .args .table .now) p (c .before .before .before .before .before .before .before .before .before .before .before .body-at .result) (c .before .before .before .before .before .before .before .before .before .before .before .body-at .ensures .exact) _ refl)
+    let k = counted c in
+    let s = start k in
+    ((decide-lying (s .pre .0 .0) (s .pre .0 .1) (s .pre .1 .0) (row c), lent-some (s .pre .0 .0) (s .pre .0 .1) (s .pre .1 .0) (first k) refl (k .body-length .ensures)), decide-reads (s .pre .0 .0) (s .pre .0 .1) (s .pre .1 .0) (row c))
 
-decided-requires : tie.Need-decided-requires
-decided-requires c κs =
-    search needs
+-- ---- the early results are kept
+
+mul-from : tie.Need-mul-from
+mul-from c = let a = c .before .before .before .row-at .ensures in omega arith
+
+sub-load-entries : tie.Need-sub-load-entries
+sub-load-entries c =
+    let s = c .before .before .before .before .before .before .before .before .before .before .before in
+    let p = s .pre .1 .0 in
+    let a = c .before .before .before .row-at .ensures in
+    omega (arith, holds-long (s .args .l) (s .pre .0 .0) (s .args .records .now) (p .replica) (p .holds))
+
+part-load-entries-start : tie.Need-part-load-entries-start
+part-load-entries-start c =
+    let s = c .before .before .before .before .before .before .before .before .before .before .before in
+    let p = s .pre .1 .0 in
+    let a = c .before .before .before .row-at .ensures in
+    omega (arith, holds-long (s .args .l) (s .pre .0 .0) (s .args .records .now) (p .replica) (p .holds))
+
+load-entries-requires : tie.Need-load-entries-requires
+load-entries-requires c κs =
+    let k = c .before .before .before .before .before in
+    let s = start (counted k) in
+    let e = k .counts-at .ensures in
+    (writes-few (s .pre .0 .0) (s .pre .0 .1) (s .pre .1 .0) (row k) e, omega (arith, writes-inside (s .pre .0 .0) (s .pre .0 .1) (s .pre .1 .0) (row k) e refl), s .pre .1 .1)
 
 returns : tie.Need-returns
 returns c =
-    let b = c .before .before .before .before .before .before .before .before .before .before .before .before .before .before .before .before .before .before .before in
-    λ p. decided-as _ _ (c .decided .ensures) (decided-kept (b .args .l) (b .pre .0) (b .args .records .now) (b .args .bodies .now) (b .args .position) (b .args .table .now) p (c .before .before .before .before .before .before .before .before .before .before .before .before .before .before .body-at .result) (c .before .before .before .before .before .before .before .before .before .before .before .before .before .before .body-at .ensures .exact) _ refl (c .before .before .before .before .before .load-row .result) _ _ _ _ _ (loaded-run (b .args .l) (b .pre .0) (b .args .records .now) (p .replica) (p .holds) (b .args .position) (p .there) (c .before .before .before .before .before .before .before .before .before .before .before .before .before .before .before .before .row-at .result) (c .before .before .before .before .before .before .before .before .before .before .before .before .before .before .before .row-width .result) (c .before .before .before .before .before .before .before .before .before .before .before .before .before .before .before .before .row-at .ensures .exact) (c .before .before .before .before .before .before .before .before .before .before .before .before .before .before .before .row-width .ensures) (c .before .before .before .before .before .load-row .result) _ _ _ _ _ (c .before .before .before .before .before .load-row .ensures)) (c .before .before .is-validated .result) (c .before .before .is-validated .ensures) (c .before .if1 .taken))
+    let k = c .before .before .before .before .before .before .before in
+    let s = start (counted k) in
+    let e = k .counts-at .ensures in
+    let seen = c .before .before .before .before .before .before .is-validated .ensures in
+    let loaded = c .before .load-entries .ensures .0 in
+    record {
+      decided = λ p. decided-as (c .decided .ensures)
+          (decided-kept (s .pre .0 .0) (s .pre .0 .1) p (row k) e (first (counted k)) refl (counted k .body-length .ensures) seen (c .before .before .before .before .before .if1 .taken) (writes-loaded (s .pre .0 .0) (s .pre .0 .1) p (row k) e refl _ _ loaded));
+    }
 
-run-requires : tie.Need-run-requires
-run-requires c κs =
-    let b = c .before .before .before .before .before .before .before .before .before .before .before .before .before .before .before .before .before .before .before .before .before .before in
-    let p = b .pre .1 .0 in
-    let e = c .before .before .before .before .before .before .before .before .load-row .ensures in
-    (lent-formed (b .args .l) (b .pre .0) (b .args .records .now) (b .args .bodies .now) (b .args .position) (b .args .table .now) p (c .before .before .before .before .before .before .before .before .before .before .before .before .before .before .before .before .before .body-at .result) (c .before .before .before .before .before .before .before .before .before .before .before .before .before .before .before .before .before .body-at .ensures .exact) _ refl, e .read-room, e .write-room)
+-- ---- it is run again
 
-decided-requires-2 : tie.Need-decided-requires-2
-decided-requires-2 c κs =
-    search needs
+run-again-requires : tie.Need-run-again-requires
+run-again-requires c κs =
+    let k = c .before .before .before .before .before .before .before in
+    let s = start k in
+    (s .pre .0, (rerunning (s .pre .0 .0) (s .pre .0 .1) (s .pre .1 .0) (first k) refl (k .body-length .ensures), s .pre .1 .1))
 
 returns-2 : tie.Need-returns-2
 returns-2 c =
-    let b = c .before .before .before .before .before .before .before .before .before .before .before .before .before .before .before .before .before .before .before .before .before .before .before .before in
-    λ p. decided-as _ _ (c .decided2 .ensures) (decided-again (b .args .l) (b .pre .0) (b .args .records .now) (b .args .bodies .now) (b .args .position) (b .args .table .now) p (c .before .before .before .before .before .before .before .before .before .before .before .before .before .before .before .before .before .before .before .body-at .result) (c .before .before .before .before .before .before .before .before .before .before .before .before .before .before .before .before .before .before .before .body-at .ensures .exact) _ refl (c .before .before .before .before .before .before .before .before .before .before .load-row .result) _ _ _ _ _ (loaded-run (b .args .l) (b .pre .0) (b .args .records .now) (p .replica) (p .holds) (b .args .position) (p .there) (c .before .before .before .before .before .before .before .before .before .before .before .before .before .before .before .before .before .before .before .before .before .row-at .result) (c .before .before .before .before .before .before .before .before .before .before .before .before .before .before .before .before .before .before .before .before .row-width .result) (c .before .before .before .before .before .before .before .before .before .before .before .before .before .before .before .before .before .before .before .before .before .row-at .ensures .exact) (c .before .before .before .before .before .before .before .before .before .before .before .before .before .before .before .before .before .before .before .before .row-width .ensures) (c .before .before .before .before .before .before .before .before .before .before .load-row .result) _ _ _ _ _ (c .before .before .before .before .before .before .before .before .before .before .load-row .ensures)) (c .before .before .before .before .before .before .before .is-validated .result) (c .before .before .before .before .before .before .before .is-validated .ensures) (c .before .before .before .before .before .before .if1 .left) (c .before .run .result) _ _ _ _ (c .before .run .ensures .0))
+    let k = c .before .before .before .before .before .before in
+    let s = start (counted k) in
+    let seen = c .before .before .before .before .before .is-validated .ensures in
+    record {
+      decided = λ p. decided-as (c .decided2 .ensures)
+          (decided-again (s .pre .0 .0) (s .pre .0 .1) p (row k) (k .counts-at .ensures) (first (counted k)) refl (counted k .body-length .ensures) seen (c .before .before .before .before .if1 .left) (c .before .run-again .ensures));
+    }
+
+cast-i : tie.Need-cast-i
+cast-i c = search needs
+
+part-load-entries-end : tie.Need-part-load-entries-end
+part-load-entries-end c = search needs
+
+decided-requires : tie.Need-decided-requires
+decided-requires c κs = search needs
+
+decided-requires-2 : tie.Need-decided-requires-2
+decided-requires-2 c κs = search needs
 
 pub decide-spec : {M : Type 1} → statement M
 decide-spec =
     tie.close
     (tie.spec
-    row-at-requires
-    mul-row
-    row-width-requires
-    mul-row-end
-    add-row-end
+    cast-i
     body-at-requires
-    shared-slice-read-operations
-    cast-operations
+    shared-slice-read-body-length
+    cast-body-length
+    body-length-requires
     add-end
-    mul-end
-    add-end-2
     sub-body
     part-body-start
     part-body-end
-    sub-load-row
-    part-load-row-start
-    part-load-row-end
-    load-row-requires
+    row-at-requires
+    counts-at-requires
     is-validated-requires
+    mul-from
+    sub-load-entries
+    part-load-entries-start
+    part-load-entries-end
+    load-entries-requires
     decided-requires
     returns
-    run-requires
+    run-again-requires
     decided-requires-2
     returns-2)

@@ -1,108 +1,97 @@
 -- `final_delivery::deliver_final` meets its contract: each refusal is a law's, and the commit is `commit_at`'s.
-use mathlib.Core.Path.{_≡_}
 use native.Mathlib.Omega.{arith}
-use lib.ListN.{length}
 use borrow.Author.Needs.{needs}
-use Rattle.cells.specs.Cells.{Below}
-use Rattle.model.specs.Lists.{index}
 use Rattle.model.specs.Calls.{clients}
-use Rattle.model.specs.Replica.{has-key}
-use Rattle.layout.specs.Layout.{Areas, parse}
-use Rattle.layout.specs.Offsets.{record-length}
-use Rattle.layout.specs.Holds.{Holds, holds-long}
-use Rattle.layout.specs.Fit.{fit-holds}
-use Rattle.commit.specs.Commit.{Found}
-use Rattle.commit.specs.Deliver.{refuse, fit-held, no-client, is-spent, is-missing, is-last, fit-found, final-answer}
+use Rattle.layout.specs.Layout.{Areas}
+use Rattle.layout.specs.Contract.{met-by}
+use Rattle.final_delivery.specs.Commit.{Found}
+use Rattle.final_delivery.specs.Deliver.{Shaped, Fresh, Standing, shaped-held, shaped-long, no-client, is-spent, is-fresh, is-missing, is-standing, is-last, fit-found, final-answer}
 use Rattle.final_delivery.proofs.deliver_final.Statement.{statement}
 use Rattle.final_delivery.proofs.deliver_final.Tie as tie
 
--- ---- what the areas hold at entry
+-- ---- waypoints: the areas at entry, the key that is not spent, the place that was found, the timestamp
 
 abbrev areas : tie.Start → Areas
 areas s = (s .args .records .now, s .args .bodies .now)
 
-bytes : (k : tie.After-slice-known) → Below 256 (k .before .args .records .now)
-bytes k i = k .slice-known .given i .fits
+shaped : (k : tie.After-slice-known) → Shaped (k .before .args .l) (areas (k .before))
+shaped k = let s = k .before in record { sane = s .pre .0 .sane; bytes = λ i. k .slice-known .given i .fits; fits = s .pre .1 }
 
-held : (k : tie.After-slice-known) → Holds (k .before .args .l) (k .before .args .records .now) (parse (k .before .args .l) (areas (k .before)))
-held k = let s = k .before in fit-holds (s .args .l) (s .pre .0 .0) (areas s) (bytes k) (s .pre .1)
+abbrev known : tie.Else2 → tie.After-slice-known
+known k = k .before .before .before .before .before
 
-area : (k : tie.After-slice-known) → length (k .before .args .records .now) ≡ record-length (k .before .args .l)
-area k = let s = k .before in holds-long (s .args .l) (s .pre .0 .0) (s .args .records .now) (parse (s .args .l) (areas s)) (held k)
+abbrev located : tie.Else3 → tie.After-locate
+located k = k .before .before .before .before
 
--- ---- what `locate` found
+abbrev unspent : tie.Else3 → tie.Else2
+unspent k = k .before .before .before .before .before .before
 
-stands : (p : tie.After-locate) → (let s = p .before .before .before .before .before .before .before .before .before in p .locate .result .position ≡ index (has-key (s .args .client) (s .args .sequence)) (parse (s .args .l) (areas s) .pending))
-stands p = p .locate .ensures .position _ (held (p .before .before .before .before .before .before .before .before))
+abbrev timed : tie.Else4 → tie.After-get
+timed k = k .before
 
-counts : (p : tie.After-locate) → (let s = p .before .before .before .before .before .before .before .before .before in p .locate .result .count ≡ length (parse (s .args .l) (areas s) .pending))
-counts p = p .locate .ensures .count _ (held (p .before .before .before .before .before .before .before .before))
+abbrev pending : tie.Else4 → tie.Else3
+pending k = k .before .before .before
+
+fresh : (e : tie.Else2) → (let s = known e .before in Fresh (s .args .l) (areas s) (s .args .client) (s .args .sequence))
+fresh e = is-fresh (shaped (known e)) (e .before .before .before .if1 .left) (e .before .is-spent .ensures) (e .if2 .left)
+
+standing : (e : tie.Else3) → (let s = known (unspent e) .before in Standing (s .args .l) (areas s) (s .args .client) (s .args .sequence) (located e .locate .result .position .0))
+standing e = is-standing (shaped (known (unspent e))) (fresh (unspent e)) (located e .locate .ensures) (e .if3 .left)
 
 -- a transaction that is to be committed
-abbrev found : (c : tie.Else4) → (let p = c .before .before .before .before .before in let s = p .before .before .before .before .before .before .before .before .before in Found (s .args .l) (s .args .records .now) (s .args .bodies .now) (s .args .client) (p .locate .result .position))
-found c =
-    let p = c .before .before .before .before .before in
-    let g = p .before .before .before in
-    let k = p .before .before .before .before .before .before .before .before in
-    let s = k .before in
-    fit-found (s .args .l) (s .pre .0 .0) (areas s) (bytes k) (s .pre .1) (s .args .client) (s .args .sequence) (g .before .before .before .if1 .left) (g .before .last-at .result) (g .before .last-at .ensures .exact) (g .get .result) (g .get .ensures) (p .before .before .if2 .left) (p .locate .result .position) (p .locate .result .count) (stands p) (counts p) (c .before .before .before .if3 .left) (c .before .get2 .result) (c .before .get2 .ensures) (c .if4 .left)
+abbrev found : (e : tie.Else4) → (let s = known (unspent (pending e)) .before in Found (s .args .l) (s .args .records .now) (s .args .bodies .now) (s .args .client) (located (pending e) .locate .result .position .0))
+found e = fit-found (shaped (known (unspent (pending e)))) (standing (pending e)) (timed e .get .ensures) (e .if4 .left)
+
+-- ---- the needs
 
 returns : tie.Need-returns
-returns c =
-    let k = c .before .before in
-    let s = k .before in
-    refuse (s .args .l) (s .args .client) (s .args .sequence) 3 (areas s) (no-client (s .args .l) (s .pre .0 .0) (areas s) (bytes k) (s .pre .1) (s .args .client) (s .args .sequence) (c .if1 .taken))
+returns c = met-by (no-client (shaped (c .before .before)) (c .before .before .before .args .sequence) (c .if1 .taken))
 
-last-at-requires : tie.Need-last-at-requires
+is-spent-requires : tie.Need-is-spent-requires
 unfolding clients
-last-at-requires c κs = (c .before .before .before .before .pre .0 .0, omega arith)
+is-spent-requires c κs = let k = c .before .before .before in ((k .before .pre .0 .sane, omega arith), shaped-held (shaped k))
+
+returns-2 : tie.Need-returns-2
+returns-2 c = met-by (is-spent (shaped (c .before .before .before .before .before)) (c .before .before .before .if1 .left) (c .before .is-spent .ensures) (c .if2 .taken))
+
+locate-requires : tie.Need-locate-requires
+locate-requires c κs = let k = c .before .before .before .before .before .before in (k .before .pre .0 .sane, shaped-held (shaped k))
+
+returns-3 : tie.Need-returns-3
+returns-3 c =
+    let e = c .before .before .before .before .before .before in
+    met-by (is-missing (shaped (known e)) (fresh e) (c .before .before .before .before .locate .ensures) (c .if3 .taken))
 
 get-requires : tie.Need-get-requires
-get-requires c κs = let h = c .before .before .if1 .left in omega (arith, c .last-at .ensures .exact, area (c .before .before .before .before))
+get-requires c κs = omega (arith, shaped-long (shaped (c .before .before .before .before .before .before .before .before .before .before .before .before)))
+
+returns-4 : tie.Need-returns-4
+returns-4 c =
+    let e = c .before .before .before in
+    met-by (is-last (shaped (known (unspent e))) (standing e) (c .before .get .ensures) (c .if4 .taken))
+
+commit-at-requires : tie.Need-commit-at-requires
+commit-at-requires c κs =
+    let e = c .before .before in
+    let p = known (unspent (pending e)) .before .pre .0 in
+    ((p .sane, record { objects = p .objects; operations = p .operations; readers = p .readers }), found e)
+
+returns-5 : tie.Need-returns-5
+returns-5 c =
+    let e = c .before .before .before .before .before .before .before in
+    met-by (final-answer (shaped (known (unspent (pending e)))) (standing (pending e)) (timed e .get .ensures) (e .if4 .left) (c .before .before .before .before .commit-at .ensures))
 
 same-length : tie.Need-same-length
 same-length c = search needs
 
-returns-2 : tie.Need-returns-2
-returns-2 c =
-    let g = c .before in
-    let k = c .before .before .before .before .before .before in
-    let s = k .before in
-    refuse (s .args .l) (s .args .client) (s .args .sequence) 4 (areas s) (is-spent (s .args .l) (s .pre .0 .0) (areas s) (bytes k) (s .pre .1) (s .args .client) (s .args .sequence) (g .before .before .before .if1 .left) (g .before .last-at .result) (g .before .last-at .ensures .exact) (g .get .result) (g .get .ensures) (c .if2 .taken))
-
-locate-requires : tie.Need-locate-requires
-locate-requires c κs =
-    let k = c .before .before .before .before .before .before .before in
-    let s = k .before in
-    (s .pre .0 .0, fit-held (s .args .l) (s .pre .0 .0) (areas s) (bytes k) (s .pre .1) (s .args .client) (s .args .sequence))
+cast-if3 : tie.Need-cast-if3
+cast-if3 c = search needs
 
 same-length-2 : tie.Need-same-length-2
 same-length-2 c = search needs
 
-returns-3 : tie.Need-returns-3
-returns-3 c =
-    let p = c .before .before in
-    let g = p .before .before .before in
-    let k = p .before .before .before .before .before .before .before .before in
-    let s = k .before in
-    refuse (s .args .l) (s .args .client) (s .args .sequence) 8 (areas s) (is-missing (s .args .l) (s .pre .0 .0) (areas s) (bytes k) (s .pre .1) (s .args .client) (s .args .sequence) (g .before .before .before .if1 .left) (g .before .last-at .result) (g .before .last-at .ensures .exact) (g .get .result) (g .get .ensures) (p .before .before .if2 .left) (p .locate .result .position) (p .locate .result .count) (stands p) (counts p) (c .if3 .taken))
-
-get-requires-2 : tie.Need-get-requires-2
-get-requires-2 c κs = omega (arith, area (c .before .before .before .before .before .before .before .before .before .before .before))
-
 same-length-3 : tie.Need-same-length-3
 same-length-3 c = search needs
-
-returns-4 : tie.Need-returns-4
-returns-4 c =
-    let p = c .before .before .before .before .before in
-    let g = p .before .before .before in
-    let k = p .before .before .before .before .before .before .before .before in
-    let s = k .before in
-    refuse (s .args .l) (s .args .client) (s .args .sequence) 9 (areas s) (is-last (s .args .l) (s .pre .0 .0) (areas s) (bytes k) (s .pre .1) (s .args .client) (s .args .sequence) (g .before .before .before .if1 .left) (g .before .last-at .result) (g .before .last-at .ensures .exact) (g .get .result) (g .get .ensures) (p .before .before .if2 .left) (p .locate .result .position) (p .locate .result .count) (stands p) (counts p) (c .before .before .before .if3 .left) (c .before .get2 .result) (c .before .get2 .ensures) (c .if4 .taken))
-
-commit-at-requires : tie.Need-commit-at-requires
-commit-at-requires c κs = (c .before .before .before .before .before .before .before .before .before .before .before .before .before .before .before .before .pre .0, found (c .before .before))
 
 same-length-4 : tie.Need-same-length-4
 same-length-4 c = search needs
@@ -110,28 +99,19 @@ same-length-4 c = search needs
 same-length-5 : tie.Need-same-length-5
 same-length-5 c = search needs
 
-returns-5 : tie.Need-returns-5
-returns-5 c =
-    let p = c .before .before .before .before .before .before .before .before .before .before .before .before in
-    let g = p .before .before .before in
-    let k = p .before .before .before .before .before .before .before .before in
-    let s = k .before in
-    let e = c .before .before .before .before .before .before .before in
-    final-answer (s .args .l) (s .pre .0 .0) (areas s) (bytes k) (s .pre .1) (s .args .client) (s .args .sequence) (g .before .before .before .if1 .left) (g .before .last-at .result) (g .before .last-at .ensures .exact) (g .get .result) (g .get .ensures) (p .before .before .if2 .left) (p .locate .result .position) (p .locate .result .count) (stands p) (counts p) (e .before .before .before .if3 .left) (e .before .get2 .result) (e .before .get2 .ensures) (e .if4 .left) _ _ (c .before .before .before .before .commit-at .result) (c .before .before .before .before .commit-at .ensures (found e))
-
 pub deliver-final-spec : {M : Type 1} → statement M
 deliver-final-spec =
     tie.close
     (tie.spec
     returns
-    last-at-requires
-    get-requires
+    is-spent-requires
     same-length
     returns-2
     locate-requires
+    cast-if3
     same-length-2
     returns-3
-    get-requires-2
+    get-requires
     same-length-3
     returns-4
     commit-at-requires

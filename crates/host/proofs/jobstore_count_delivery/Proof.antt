@@ -39,7 +39,7 @@ use denote.Triple.Spec.{Meets, tripleOf}
 use denote.Triple.Table.{entered, cited}
 use denote.Triple.Walked.{says, Stays, stay-ref, walkOf, goes-ref, Walks, ends-at, walked, walk-meets}
 use Rattle.host.specs.declared.Counters.{Counters}
-use Rattle.host.specs.Counting.{nextTimestamp, deliveryNumber}
+use Rattle.host.specs.Counting.{timestamp-after, number-of-delivery}
 use Rattle.host.proofs.Counters as T
 use Rattle.host.proofs.Counters.Laws as T′
 use Rattle.host.proofs.next_timestamp as next-timestamp
@@ -69,11 +69,11 @@ module _ {M : Type 1} (𝓤 : URA M) (H : Heap 𝓤) (A : Atoms 𝓤) (at-mem : 
   abbrev Number : Contract 𝓤
   Number = tripleOf 𝓤 H A delivery-number.signature (delivery-number.spec 𝓤 H A at-mem run)
 
-  after-of : (n r : ℕ) → ent 𝓤 (ensured 𝓤 H A next-timestamp.ended (next-timestamp.clauses 𝓤 H A at-mem run) tt (n, tt) tt r) (fact 𝓤 (r ≡ nextTimestamp n))
-  after-of n r = exE 𝓤 _ (λ ws. snd∗ 𝓤 (sem 𝓤 H A (lasts next-timestamp.ended tt (n, tt) ws)) (fact 𝓤 (r ≡ nextTimestamp n)))
+  after-of : (n r : ℕ) → ent 𝓤 (ensured 𝓤 H A next-timestamp.ended (next-timestamp.clauses 𝓤 H A at-mem run) tt (n, tt) tt r) (fact 𝓤 (r ≡ timestamp-after n))
+  after-of n r = exE 𝓤 _ (λ ws. snd∗ 𝓤 (sem 𝓤 H A (lasts next-timestamp.ended tt (n, tt) ws)) (fact 𝓤 (r ≡ timestamp-after n)))
 
-  number-of : (n r : ℕ) → ent 𝓤 (ensured 𝓤 H A delivery-number.ended (delivery-number.clauses 𝓤 H A at-mem run) tt (n, tt) tt r) (fact 𝓤 (r ≡ deliveryNumber n))
-  number-of n r = exE 𝓤 _ (λ ws. snd∗ 𝓤 (sem 𝓤 H A (lasts delivery-number.ended tt (n, tt) ws)) (fact 𝓤 (r ≡ deliveryNumber n)))
+  number-of : (n r : ℕ) → ent 𝓤 (ensured 𝓤 H A delivery-number.ended (delivery-number.clauses 𝓤 H A at-mem run) tt (n, tt) tt r) (fact 𝓤 (r ≡ number-of-delivery n))
+  number-of n r = exE 𝓤 _ (λ ws. snd∗ 𝓤 (sem 𝓤 H A (lasts delivery-number.ended tt (n, tt) ws)) (fact 𝓤 (r ≡ number-of-delivery n)))
 
 module _ {M : Type 1} (𝓤 : URA M) (H : Heap 𝓤) (A : Atoms 𝓤) (W : Given 𝓤 H A) (at-mem : Memory → SProp 𝓤) (run : Routine → Fun 𝓤) (κ : Lft) (q : Share) (b o : ℕ) (γ : GName) (h : Counters) where
   abbrev x : Arg
@@ -99,7 +99,7 @@ module _ {M : Type 1} (𝓤 : URA M) (H : Heap 𝓤) (A : Atoms 𝓤) (W : Given
   abbrev Post : Val → SProp 𝓤
   Post = walkOf 𝓤 H A this.ended stayed (this.clauses 𝓤 H A at-mem run) .post (((κ, tt), (q, tt), tt, x, at), tt)
 
-  exits : (m r : ℕ) → m ≡ nextTimestamp (h .timestamp) → r ≡ deliveryNumber (h .timestamp) → r < 2 ^ 32
+  exits : (m r : ℕ) → m ≡ timestamp-after (h .timestamp) → r ≡ number-of-delivery (h .timestamp) → r < 2 ^ 32
       → ent 𝓤 (sep 𝓤 (A .obs γ (T.the-row .coded .code (h′ m))) (sep 𝓤 (A .bor κ (Body (mem (T.the-row)) b o γ)) (A .lft κ q))) (Post (vint w32 r))
   exits m r e₁ e₂ fits =
       qed W (‵ (fobs γ (T.the-row .coded .code (h′ m))) ∷ ‵ (fbor κ (Body (mem (T.the-row)) b o γ)) ∷ ‵ (flft κ q) ∷ []) ∵
@@ -135,7 +135,7 @@ module _ {M : Type 1} (𝓤 : URA M) (H : Heap 𝓤) (A : Atoms 𝓤) (W : Given
         owned ! u32 (Is u32) (uint-makes 𝓤 H A W w32) (h .timestamp) _ (refl, timestamp-fits g) $ use1 W (raw (After 𝓤 H A at-mem run .pre to-after)) goes-after $
         calls-at ! fm (After 𝓤 H A at-mem run) known-after to-after (and-then ! (load ! (from ! (stop !)) (look ! 7 refl)) (no-more !)) (λ v.
         use1 W (later (some (λ (m : ℕ). (‵ ftrue ⊛ ‵ (u32 .own m (v ∷ []))) ⊛ raw (ensured 𝓤 H A next-timestamp.ended (next-timestamp.clauses 𝓤 H A at-mem run) tt (h .timestamp, tt) tt m)))) (id⊢ 𝓤 _) $ await ! tt $ pick ! (λ m.
-        split ! $ move ! (1 ∷ []) $ use1 W (raw (fact 𝓤 (m ≡ nextTimestamp (h .timestamp)))) (after-of 𝓤 H A at-mem run (h .timestamp) m) $ heard ! (m ≡ nextTimestamp (h .timestamp)) (λ e₁. split ! $ drop ! $
+        split ! $ move ! (1 ∷ []) $ use1 W (raw (fact 𝓤 (m ≡ timestamp-after (h .timestamp)))) (after-of 𝓤 H A at-mem run (h .timestamp) m) $ heard ! (m ≡ timestamp-after (h .timestamp)) (λ e₁. split ! $ drop ! $
         peeks ! u32 (Is u32) (shows 𝓤 H A u32) m (v ∷ []) (λ is.
         land ! (from ! (stop !)) (init ! 5 refl (uint-lawful 𝓤 H A W w32 .typed m _ is .0)) $ rewrite ! 5 (λ (u : Val). ‵ (fat fullShare (tyInt w32) l₃ 0 u)) (ap only (is .0)) refl $ drop ! $
         -- (*_1).0 = _3
@@ -144,7 +144,7 @@ module _ {M : Type 1} (𝓤 : URA M) (H : Heap 𝓤) (A : Atoms 𝓤) (W : Given
         owned ! u32 (Is u32) (uint-makes 𝓤 H A W w32) (h .timestamp) _ (refl, timestamp-fits g) $ use1 W (raw (Number 𝓤 H A at-mem run .pre to-number)) goes-number $
         calls-at ! fm (Number 𝓤 H A at-mem run) known-number to-number (and-then ! (load ! (from ! (stop !)) (look ! 7 refl)) (no-more !)) (λ v′.
         use1 W (later (some (λ (r : ℕ). (‵ ftrue ⊛ ‵ (u32 .own r (v′ ∷ []))) ⊛ raw (ensured 𝓤 H A delivery-number.ended (delivery-number.clauses 𝓤 H A at-mem run) tt (h .timestamp, tt) tt r)))) (id⊢ 𝓤 _) $ await ! tt $ pick ! (λ r.
-        split ! $ move ! (1 ∷ []) $ use1 W (raw (fact 𝓤 (r ≡ deliveryNumber (h .timestamp)))) (number-of 𝓤 H A at-mem run (h .timestamp) r) $ heard ! (r ≡ deliveryNumber (h .timestamp)) (λ e₂. split ! $ drop ! $
+        split ! $ move ! (1 ∷ []) $ use1 W (raw (fact 𝓤 (r ≡ number-of-delivery (h .timestamp)))) (number-of 𝓤 H A at-mem run (h .timestamp) r) $ heard ! (r ≡ number-of-delivery (h .timestamp)) (λ e₂. split ! $ drop ! $
         peeks ! u32 (Is u32) (shows 𝓤 H A u32) r (v′ ∷ []) (λ is′.
         land ! (from ! (stop !)) (init ! 11 refl (uint-lawful 𝓤 H A W w32 .typed r _ is′ .0)) $ rewrite ! 11 (λ (u : Val). ‵ (fat fullShare (tyInt w32) l₀ 0 u)) (ap only (is′ .0)) refl $ drop ! $
         -- the borrow is closed at the new record

@@ -48,8 +48,8 @@ use denote.Triple.Spec.{Meets, tripleOf}
 use denote.Triple.Table.{entered, cited}
 use denote.Triple.Walked.{says, Stays, stay-slice, stay-none, walkOf, goes-slice, goes-none, Walks, ends-at, walked, walk-meets}
 use Rattle.host.specs.declared.PendingTransaction.{PendingTransaction}
-use Rattle.host.specs.Restart.{notBegun, restarted, restartedFrom}
-use Rattle.host.specs.Laws.{restart-step, restart-done}
+use Rattle.host.specs.HostRestart.{unbegun, restarted, restarted-behind}
+use Rattle.host.specs.RestartLaws.{restart-step, restart-done}
 use Rattle.host.proofs.PendingTransaction as T
 use Rattle.host.proofs.PendingTransaction.Laws as T′
 use Rattle.host.proofs.not_begun as not-begun
@@ -114,8 +114,8 @@ module _ {M : Type 1} (𝓤 : URA M) (H : Heap 𝓤) (A : Atoms 𝓤) (at-mem : 
   abbrev Start : Contract 𝓤
   Start = tripleOf 𝓤 H A not-begun.signature (not-begun.spec 𝓤 H A at-mem run)
 
-  start-of : (c s : ℕ) (r : PendingTransaction) → ent 𝓤 (ensured 𝓤 H A not-begun.ended (not-begun.clauses 𝓤 H A at-mem run) tt (c, (s, tt)) tt r) (fact 𝓤 (r ≡ notBegun c s))
-  start-of c s r = exE 𝓤 _ (λ ws. snd∗ 𝓤 (sem 𝓤 H A (lasts not-begun.ended tt (c, (s, tt)) ws)) (fact 𝓤 (r ≡ notBegun c s)))
+  start-of : (c s : ℕ) (r : PendingTransaction) → ent 𝓤 (ensured 𝓤 H A not-begun.ended (not-begun.clauses 𝓤 H A at-mem run) tt (c, (s, tt)) tt r) (fact 𝓤 (r ≡ unbegun c s))
+  start-of c s r = exE 𝓤 _ (λ ws. snd∗ 𝓤 (sem 𝓤 H A (lasts not-begun.ended tt (c, (s, tt)) ws)) (fact 𝓤 (r ≡ unbegun c s)))
 
   abbrev to-start : ℕ → ℕ → Start .Ghost
   to-start c s = ((tt, tt, tt, (c, (s, tt)), (vint w32 c ∷ [], (vint w32 s ∷ [], tt))), tt)
@@ -142,7 +142,7 @@ module _ {M : Type 1} (𝓤 : URA M) (H : Heap 𝓤) (A : Atoms 𝓤) (W : Given
   abbrev Post : Val → SProp 𝓤
   Post = walkOf 𝓤 H A this.ended stayed (this.clauses 𝓤 H A at-mem run) .post (((κ, tt), (q, tt), tt, x, at), tt)
 
-  exits : (ys : List PendingTransaction) → length ys ≡ n → ys ≡ restartedFrom f xs
+  exits : (ys : List PendingTransaction) → length ys ≡ n → ys ≡ restarted-behind f xs
       → ent 𝓤 (⋆ 𝓤 H A (‵ (fobs γ (codedHoleys R .code (heres R ys))) ∷ ‵ (fbor κ (Held R (length ys) b o γ)) ∷ ‵ (flft κ q) ∷ [])) (Post vunit)
   exits ys e e′ =
       qed W (‵ (fobs γ (codedHoleys R .code (heres R ys))) ∷ ‵ (fbor κ (Held R (length ys) b o γ)) ∷ ‵ (flft κ q) ∷ []) ∵
@@ -153,7 +153,7 @@ module _ {M : Type 1} (𝓤 : URA M) (H : Heap 𝓤) (A : Atoms 𝓤) (W : Given
 
   -- where a turn begins: i, and the list in memory, of which all from i on is still to be restarted
   abbrev St : Type 0
-  St = (i : ℕ) × ((ys : List PendingTransaction) × ((length ys ≡ n) × (restartedFrom i ys ≡ restartedFrom f xs)))
+  St = (i : ℕ) × ((ys : List PendingTransaction) × ((length ys ≡ n) × (restarted-behind i ys ≡ restarted-behind f xs)))
 
   abbrev Nearer : St → St → Type 0
   Nearer u t = n - u .0 < n - t .0
@@ -190,7 +190,7 @@ module _ {M : Type 1} (𝓤 : URA M) (H : Heap 𝓤) (A : Atoms 𝓤) (W : Given
       ys = t .1 .0
 
       abbrev d : PendingTransaction
-      d = notBegun 0 0
+      d = unbegun 0 0
 
       abbrev old : PendingTransaction
       old = getD ys i d
@@ -211,7 +211,7 @@ module _ {M : Type 1} (𝓤 : URA M) (H : Heap 𝓤) (A : Atoms 𝓤) (W : Given
       sequence-fits is = LL.owed T.the-type T′.the-laws old _ is .1 .0 .1
 
       abbrev next : T (ltb i n) → (r : PendingTransaction) → r ≡ restarted old → St
-      next less r e = (i + 1, (set ys i r, (length-set ys i r ∙ t .1 .1 .0, ap (λ (j : PendingTransaction). restartedFrom (i + 1) (set ys i j)) e ∙ restart-step ys i d (within less) ∙ t .1 .1 .1)))
+      next less r e = (i + 1, (set ys i r, (length-set ys i r ∙ t .1 .1 .0, ap (λ (j : PendingTransaction). restarted-behind (i + 1) (set ys i j)) e ∙ restart-step ys i d (within less) ∙ t .1 .1 .1)))
 
       turns : Sq W (At t) (runs C Λ En body.turn-1 (anyQ (Turned t)))
       unfolding afterTurn

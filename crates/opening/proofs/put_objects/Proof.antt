@@ -23,20 +23,18 @@ abbrev μ-loop : tie.MeasureT-loop
 -- the block of this turn lies in the area
 room : (c : tie.In-loop Inv-loop μ-loop) → c .before .loop .at * 8 + 24 ≤ length (c .before .loop .blocks)
 room c =
-    let a = c .before .before .before .args in
+    let a = c .before .before .before .before .args in
     let i = c .before .loop in
     filling-room (a .readers) (a .timestamp) (a .values .now) (i .blocks) (i .at) (i .i) (i .inv .2) (c .loop-test .taken)
 
-mul-width : tie.Need-mul-width Inv-loop μ-loop
-mul-width c = search needs
-
-add-width : tie.Need-add-width Inv-loop μ-loop
-add-width c = search needs
+width-requires : tie.Need-width-requires Inv-loop μ-loop
+width-requires c κs = search needs
 
 loop-holds : tie.Need-loop-holds Inv-loop μ-loop
 loop-holds c =
-    let a = c .before .args in
-    (search needs, refl, filling-start (a .readers) (a .timestamp) (a .values .now) (a .blocks .now) (c .before .pre .zeros))
+    let s = c .before .before in
+    let a = s .args in
+    (search needs, refl, filling-start (a .readers) (a .timestamp) (a .values .now) (a .blocks .now) (s .pre .zeros))
 
 put-requires : tie.Need-put-requires Inv-loop μ-loop
 put-requires c κs = omega (arith, room (c .before))
@@ -73,20 +71,21 @@ loop-less c = search needs
 loop-again : tie.Need-loop-again Inv-loop μ-loop
 loop-again c =
     let t = c .before .before .before .before .before .before .before .before .before .before .before .before .before in
-    let a = t .before .before .before .args in
+    let w = t .before .before in
+    let a = w .before .before .args in
     let i = t .before .loop in
     let p₁ = c .before .before .before .before .before .before .before .before .before .before .before .put in
     let p₂ = c .before .before .before .before .before .before .before .put2 in
     let p₃ = c .before .before .put-signed in
     let v : ValueFits (getD (a .values .now) (i .i) (pos 0)) = record { sfits = c .before .before .before .put-signed-arg2 .given } in
-    (search needs, search needs, filling-next (a .readers) (a .timestamp) (a .values .now) (i .blocks) (i .at) (i .i) (i .inv .2) (t .loop-test .taken) (p₁ .last .0) (p₂ .last .0) (p₃ .last .0) (p₁ .ensures) (p₂ .ensures) _ (ap (ofZ w64) (toZ-ofZ v)) (p₃ .ensures) v)
+    (search needs, search needs, filling-next (a .readers) (a .timestamp) (a .values .now) (i .blocks) (i .at) (i .i) (i .inv .2) (t .loop-test .taken) (p₁ .last .0) (p₂ .last .0) (p₃ .last .0) (p₁ .ensures) (p₂ .ensures) _ (ap (ofZ w64) (toZ-ofZ v)) (p₃ .ensures) v (w .width .result) (w .width .ensures))
 
 same-length : tie.Need-same-length Inv-loop μ-loop
 same-length c = search needs
 
 returns : tie.Need-returns Inv-loop μ-loop
 returns c =
-    let a = c .before .before .before .args in
+    let a = c .before .before .before .before .args in
     let i = c .before .loop in
     filling-end (a .readers) (a .timestamp) (a .values .now) (i .blocks) (i .at) (i .i) (i .inv .2) (search needs)
 
@@ -96,8 +95,7 @@ put-objects-spec =
     (tie.spec
     Inv-loop
     μ-loop
-    mul-width
-    add-width
+    width-requires
     loop-holds
     put-requires
     add-put

@@ -11,8 +11,8 @@ use borrow.Author.Needs.{needs}
 use Rattle.words.specs.Words.{loaded}
 use Rattle.cells.specs.Signed.{told}
 use Rattle.operation.specs.declared.Operation.the-variants.{Set, Divide}
-use Rattle.operation.specs.Body.{operationOf, operationAt, constantAt}
-use Rattle.operation.specs.Laws.{of-fields, a-divide, seven-on}
+use Rattle.operation.specs.Body.{operation-of, operation-at, constant-word}
+use Rattle.operation.specs.BodyLaws.{of-fields, a-divide, seven-on}
 use Rattle.operation.proofs.operation_at.Statement.{statement}
 use Rattle.operation.proofs.operation_at.Tie as tie
 
@@ -86,11 +86,11 @@ abbrev index : tie.After-small4 → ℕ
 index c = c .before .before .before .before .before .before .before .before .before .args .i
 
 -- the operation of the fields that were read
-read : (c : tie.After-small4) (kind : ℕ) → c .before .before .before .before .small2 .result ≡ kind → operationOf kind (c .before .before .small3 .result) (c .small4 .result) (constantAt (bytes c) (index c)) ≡ operationAt (bytes c) (index c)
+read : (c : tie.After-small4) (kind : ℕ) → c .before .before .before .before .small2 .result ≡ kind → operation-of kind (c .before .before .small3 .result) (c .small4 .result) (constant-word (bytes c) (index c)) ≡ operation-at (bytes c) (index c)
 read c kind e = of-fields (bytes c) (index c) kind _ _ (sym e ∙ c .before .before .before .before .small2 .ensures .0) (c .before .before .small3 .ensures .0) (c .small4 .ensures .0)
 
 -- the constant that was loaded
-constant : (c : tie.After-small4) (v : ℕ) → v ≡ loaded (bytes c) (1 + 3 * c .before .before .before .before .before .before .small .result + 8 * index c) → v ≡ constantAt (bytes c) (index c)
+constant : (c : tie.After-small4) (v : ℕ) → v ≡ loaded (bytes c) (1 + 3 * c .before .before .before .before .before .before .small .result + 8 * index c) → v ≡ constant-word (bytes c) (index c)
 constant c v e = e ∙ ap (λ (m : ℕ). loaded (bytes c) (1 + 3 * m + 8 * index c)) (c .before .before .before .before .before .before .small .ensures .0)
 
 returns : tie.Need-returns

@@ -7,7 +7,7 @@ use borrow.Author.Needs.{needs}
 use lib.ListN.{length}
 use Rattle.cells.specs.Cells.{Put, splice}
 use Rattle.layout.specs.Offsets.{row-width}
-use Rattle.queue.specs.Delivered.{copy-room, copied}
+use Rattle.optimistic_delivery.specs.Delivered.{copy-room, copied}
 use Rattle.optimistic_delivery.proofs.append.Statement.{statement}
 use Rattle.optimistic_delivery.proofs.append.Tie as tie
 

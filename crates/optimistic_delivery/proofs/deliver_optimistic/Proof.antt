@@ -1,21 +1,22 @@
 -- `optimistic_delivery::deliver_optimistic` meets its contract: each refusal is the first cause that holds, and what is written holds one transaction more.
 use mathlib.Core.Path.{_≡_, sym, ap, _∙_}
-use mathlib.Core.Bool.{true}
+use mathlib.Core.Bool.{Bool, true, false}
 use Prim.Native.Nat.{ℕ, _≤_, _<_}
 use native.Mathlib.Omega.{arith}
 use borrow.Author.Needs.{needs}
-use lib.ListN.{length, getD}
-use Rattle.operation.specs.Body.{wellFormed}
-use Rattle.operation.specs.Laws.{formed, taken, refused}
-use Rattle.model.specs.Calls.{clients}
+use lib.ListN.{length}
+use Rattle.operation.specs.Body.{is-well-formed}
+use Rattle.operation.specs.BodyLaws.{formed, taken, refused}
+use Rattle.model.specs.Calls.{clients, spent}
 use Rattle.model.specs.Replica.{Replica}
 use Rattle.layout.specs.Layout.{Areas, parse}
 use Rattle.layout.specs.Offsets.{record-length}
 use Rattle.layout.specs.Holds.{Holds, HoldsBodies, holds-long, bodies-long}
-use Rattle.layout.specs.Reading.{last-read, size-read}
+use Rattle.layout.specs.Reading.{size-read}
+use Rattle.layout.specs.Contract.{met-by}
 use Rattle.layout.specs.Fit.{fit-holds, fit-bodies}
 use Rattle.queue.specs.Found.{position}
-use Rattle.queue.specs.Delivered.{deliver-3, deliver-4, deliver-5, deliver-6, deliver-7, deliver-0}
+use Rattle.optimistic_delivery.specs.Delivered.{deliver-3, deliver-4, deliver-5, deliver-6, deliver-7, deliver-0}
 use Rattle.optimistic_delivery.proofs.deliver_optimistic.Statement.{statement}
 use Rattle.optimistic_delivery.proofs.deliver_optimistic.Tie as tie
 
@@ -29,15 +30,15 @@ replica s = parse (s .args .l) (areas s)
 
 held : (c : tie.After-slice-known) → Holds (c .before .args .l) (c .before .args .records .now) (replica (c .before))
 held c =
-    fit-holds (c .before .args .l) (c .before .pre .0 .0) (areas (c .before)) (λ i. c .slice-known .given i .fits) (c .before .pre .1)
+    fit-holds (c .before .args .l) (c .before .pre .0 .sane) (areas (c .before)) (λ i. c .slice-known .given i .fits) (c .before .pre .1)
 
 held-bodies : (c : tie.After-slice-known) → HoldsBodies (c .before .args .l) (c .before .args .bodies .now) (replica (c .before))
 held-bodies c =
-    fit-bodies (c .before .args .l) (c .before .pre .0 .0) (areas (c .before)) (λ i. c .slice-known .given i .fits) (c .before .pre .1)
+    fit-bodies (c .before .args .l) (c .before .pre .0 .sane) (areas (c .before)) (λ i. c .slice-known .given i .fits) (c .before .pre .1)
 
 area : (c : tie.After-slice-known) → length (c .before .args .records .now) ≡ record-length (c .before .args .l)
 area c =
-    holds-long (c .before .args .l) (c .before .pre .0 .0) (c .before .args .records .now) (replica (c .before)) (held c)
+    holds-long (c .before .args .l) (c .before .pre .0 .sane) (c .before .args .records .now) (replica (c .before)) (held c)
 
 -- ---- the entry, from each place on the way
 
@@ -48,13 +49,16 @@ abbrev s₁ : tie.Else1 → tie.Start
 s₁ c = entry c .before
 
 abbrev e₁ : tie.Else2 → tie.Else1
-e₁ c = c .before .before .before .before
+e₁ c = c .before .before .before
 
 abbrev s₂ : tie.Else2 → tie.Start
 s₂ c = s₁ (e₁ c)
 
+abbrev located : tie.Else3 → tie.After-locate
+located c = c .before .before .before
+
 abbrev e₂ : tie.Else3 → tie.Else2
-e₂ c = c .before .before .before .before
+e₂ c = located c .before .before
 
 abbrev s₃ : tie.Else3 → tie.Start
 s₃ c = s₂ (e₂ c)
@@ -71,17 +75,16 @@ low : (c : tie.Else1) → s₁ c .args .client < clients
 unfolding clients
 low c = omega arith
 
-last : (c : tie.After-get) → c .get .result ≡ getD (replica (s₁ (c .before .before .before)) .lasts) (s₁ (c .before .before .before) .args .client) 0
-last c =
-    let e = c .before .before .before in
-    let s = s₁ e in
-    let a = c .before .last-at in
-    last-read (s .args .l) (s .pre .0 .0) (s .args .records .now) (replica s) (held (entry e)) (a .result) (c .get .result) (c .get .ensures) (s .args .client) (low e) (a .ensures .exact)
+abbrev is-spent : tie.Start → Bool
+is-spent s = spent (replica s .lasts) (s .args .client) (s .args .sequence)
 
-unspent : (c : tie.Else2) → getD (replica (s₂ c) .lasts) (s₂ c .args .client) 0 < s₂ c .args .sequence
-unspent c = omega (arith, last (c .before))
+asked : (c : tie.After-is-spent) → c .is-spent .result ≡ is-spent (s₁ (c .before .before))
+asked c = let e = c .before .before in c .is-spent .ensures .test (replica (s₁ e)) (held (entry e))
 
-stands : (c : tie.After-locate) → c .locate .result .position ≡ position (s₂ (c .before .before) .args .l) (areas (s₂ (c .before .before))) (s₂ (c .before .before) .pre .1) (s₂ (c .before .before) .args .client) (s₂ (c .before .before) .args .sequence)
+unspent : (c : tie.Else2) → is-spent (s₂ c) ≡ false
+unspent c = sym (asked (c .before)) ∙ c .if2 .left
+
+stands : (c : tie.After-locate) → c .locate .result .position .0 ≡ position (s₂ (c .before .before) .args .l) (areas (s₂ (c .before .before))) (s₂ (c .before .before) .pre .1) (s₂ (c .before .before) .args .client) (s₂ (c .before .before) .args .sequence)
 stands c =
     let e = c .before .before in c .locate .ensures .position (replica (s₂ e)) (held (entry (e₁ e)))
 
@@ -90,63 +93,64 @@ counts c =
     let e = c .before .before in c .locate .ensures .count (replica (s₂ e)) (held (entry (e₁ e)))
 
 absent : (c : tie.Else3) → length (replica (s₃ c) .pending) ≤ position (s₃ c .args .l) (areas (s₃ c)) (s₃ c .pre .1) (s₃ c .args .client) (s₃ c .args .sequence)
-absent c = let p = c .before .before in omega (arith, stands p, counts p)
+absent c = let p = located c in omega (arith, stands p, counts p)
 
-objects : (c : tie.After-decode) → c .before .get2 .result ≡ length (replica (s₄ c) .objects)
+objects : (c : tie.After-decode) → c .before .get .result ≡ length (replica (s₄ c) .objects)
 objects c =
     let s = s₄ c in
     let a = c .before .before .size-at in
-    size-read (s .args .l) (s .pre .0 .0) (s .args .records .now) (replica s) (held (entry (e₁ (e₂ (e₃ c))))) (a .result) (c .before .get2 .result) (c .before .get2 .ensures) (a .ensures .exact)
+    size-read (s .args .l) (s .pre .0 .sane) (s .args .records .now) (replica s) (held (entry (e₁ (e₂ (e₃ c))))) (a .result) (c .before .get .result) (c .before .get .ensures) (a .ensures .exact)
 
-well : (c : tie.After-enum-told) → wellFormed (s₄ (c .before .before) .args .l .operations) (length (replica (s₄ (c .before .before)) .objects)) (s₄ (c .before .before) .args .body .now) ≡ true
+well : (c : tie.After-enum-told) → is-well-formed (s₄ (c .before .before) .args .l .operations) (length (replica (s₄ (c .before .before)) .objects)) (s₄ (c .before .before) .args .body .now) ≡ true
 well c =
     let d = c .before .before in
     let s = s₄ d in
-    ap (λ (n : ℕ). wellFormed (s .args .l .operations) n (s .args .body .now)) (sym (objects d))
-    ∙ taken (s .args .l .operations) (d .before .get2 .result) _ (s .args .body .now) (sym (d .decode .ensures) ∙ c .enum-told .given .1) .0
+    ap (λ (n : ℕ). is-well-formed (s .args .l .operations) n (s .args .body .now)) (sym (objects d))
+    ∙ taken (s .args .l .operations) (d .before .get .result) _ (s .args .body .now) (sym (d .decode .ensures) ∙ c .enum-told .given .1) .0
 
 returns : tie.Need-returns
 unfolding clients
 returns c =
     let s = c .before .before .before .before in
-    deliver-3 (s .args .l) (areas s) (s .pre .1) (s .args .client) (s .args .sequence) (s .args .body .now) (omega arith)
+    met-by (deliver-3 (s .args .l) (areas s) (s .pre .1) (s .args .client) (s .args .sequence) (s .args .body .now) (omega arith))
 
-last-at-requires : tie.Need-last-at-requires
-last-at-requires c κs = (entry (c .before) .before .pre .0 .0, omega (arith, low (c .before)))
-
-get-requires : tie.Need-get-requires
-unfolding clients
-get-requires c κs = omega (arith, c .last-at .ensures .exact, low (c .before .before), area (entry (c .before .before)))
+is-spent-requires : tie.Need-is-spent-requires
+is-spent-requires c κs =
+    let e = c .before in
+    let k = entry e in
+    ((k .before .pre .0 .sane, low e), record { replica = replica (k .before); holds = held k })
 
 same-length : tie.Need-same-length
 same-length c = search needs
 
 returns-2 : tie.Need-returns-2
 returns-2 c =
-    let g = c .before in
-    let e = g .before .before .before in
+    let e = c .before .before .before in
     let s = s₁ e in
-    deliver-4 (s .args .l) (areas s) (s .pre .1) (s .args .client) (s .args .sequence) (s .args .body .now) (low e) (omega (arith, last g))
+    met-by (deliver-4 (s .args .l) (areas s) (s .pre .1) (s .args .client) (s .args .sequence) (s .args .body .now) (low e) (sym (asked (c .before)) ∙ c .if2 .taken))
 
 locate-requires : tie.Need-locate-requires
 locate-requires c κs =
-    let k = entry (e₁ (c .before)) in (k .before .pre .0 .0, record { replica = replica (k .before); holds = held k })
+    let k = entry (e₁ (c .before)) in (k .before .pre .0 .sane, record { replica = replica (k .before); holds = held k })
+
+cast-if3 : tie.Need-cast-if3
+cast-if3 c = search needs
 
 same-length-2 : tie.Need-same-length-2
 same-length-2 c = search needs
 
 returns-3 : tie.Need-returns-3
 returns-3 c =
-    let p = c .before .before in
+    let p = c .before .before .before in
     let e = p .before .before in
     let s = s₂ e in
-    deliver-5 (s .args .l) (areas s) (s .pre .1) (s .args .client) (s .args .sequence) (s .args .body .now) (low (e₁ e)) (unspent e) (omega (arith, stands p, counts p))
+    met-by (deliver-5 (s .args .l) (areas s) (s .pre .1) (s .args .client) (s .args .sequence) (s .args .body .now) (low (e₁ e)) (unspent e) (omega (arith, stands p, counts p)))
 
 size-at-requires : tie.Need-size-at-requires
-size-at-requires c κs = s₃ (c .before) .pre .0 .0
+size-at-requires c κs = s₃ (c .before) .pre .0 .sane
 
-get-requires-2 : tie.Need-get-requires-2
-get-requires-2 c κs = omega (arith, c .size-at .ensures .exact, area (entry (e₁ (e₂ (c .before .before)))))
+get-requires : tie.Need-get-requires
+get-requires c κs = omega (arith, c .size-at .ensures .exact, area (entry (e₁ (e₂ (c .before .before)))))
 
 decode-requires : tie.Need-decode-requires
 decode-requires c κs = search needs
@@ -165,9 +169,9 @@ returns-4 c =
     let d = c .before .before in
     let e = e₃ d in
     let s = s₄ d in
-    deliver-6 (s .args .l) (areas s) (s .pre .1) (s .args .client) (s .args .sequence) (s .args .body .now) (low (e₁ (e₂ e))) (unspent (e₂ e)) (absent e)
-    (ap (λ (n : ℕ). wellFormed (s .args .l .operations) n (s .args .body .now)) (sym (objects d))
-    ∙ refused (s .args .l .operations) (d .before .get2 .result) (s .args .body .now) (sym (d .decode .ensures) ∙ c .enum-told2 .given .1))
+    met-by (deliver-6 (s .args .l) (areas s) (s .pre .1) (s .args .client) (s .args .sequence) (s .args .body .now) (low (e₁ (e₂ e))) (unspent (e₂ e)) (absent e)
+    (ap (λ (n : ℕ). is-well-formed (s .args .l .operations) n (s .args .body .now)) (sym (objects d))
+    ∙ refused (s .args .l .operations) (d .before .get .result) (s .args .body .now) (sym (d .decode .ensures) ∙ c .enum-told2 .given .1)))
 
 same-length-4 : tie.Need-same-length-4
 same-length-4 c = search needs
@@ -178,8 +182,8 @@ returns-5 c =
     let d = t .before .before in
     let e = e₃ d in
     let s = s₄ d in
-    deliver-7 (s .args .l) (areas s) (s .pre .1) (s .args .client) (s .args .sequence) (s .args .body .now) (low (e₁ (e₂ e))) (unspent (e₂ e)) (absent e) (well t)
-    (omega (arith, counts (e .before .before)))
+    met-by (deliver-7 (s .args .l) (areas s) (s .pre .1) (s .args .client) (s .args .sequence) (s .args .body .now) (low (e₁ (e₂ e))) (unspent (e₂ e)) (absent e) (well t)
+    (omega (arith, counts (located e))))
 
 key-cell-requires : tie.Need-key-cell-requires
 key-cell-requires c κs = search needs
@@ -192,7 +196,7 @@ append-requires c κs =
     let k = entry (e₁ (e₂ (e₃ d))) in
     let s = k .before in
     let b = formed (s .args .l .operations) (length (replica s .objects)) (s .args .body .now) (well t) in
-    (s .pre .0 .0, record { records = area k; bodies = bodies-long (s .args .l) (s .pre .0 .0) (s .args .bodies .now) (replica s) (held-bodies k); free = f .if4 .left; small = omega (arith, b .whole, b .most) })
+    (s .pre .0 .sane, record { records = area k; bodies = bodies-long (s .args .l) (s .pre .0 .sane) (s .args .bodies .now) (replica s) (held-bodies k); free = f .if4 .left; small = omega (arith, b .whole, b .most) })
 
 same-length-5 : tie.Need-same-length-5
 same-length-5 c = search needs
@@ -209,23 +213,23 @@ returns-6 c =
     let e = e₃ d in
     let k = entry (e₁ (e₂ e)) in
     let s = k .before in
-    deliver-0 (s .args .l) (areas s) (s .pre .1) (s .args .client) (s .args .sequence) (s .args .body .now) (low (e₁ (e₂ e))) (unspent (e₂ e)) (absent e) (well t)
-    (omega (arith, counts (e .before .before), f .if4 .left)) (s .pre .0 .0) (omega arith) (held k) (held-bodies k) (e .before .before .locate .result .count) (w .before .key-cell .result) (counts (e .before .before)) (w .before .key-cell .ensures) (w .append .last .0) (w .append .last .1 .0) (w .append .ensures)
+    met-by (deliver-0 (s .args .l) (areas s) (s .pre .1) (s .args .client) (s .args .sequence) (s .args .body .now) (low (e₁ (e₂ e))) (unspent (e₂ e)) (absent e) (well t)
+    (omega (arith, counts (located e), f .if4 .left)) (s .pre .0 .sane) (omega arith) (held k) (held-bodies k) (located e .locate .result .count) (w .before .key-cell .result) (counts (located e)) (w .before .key-cell .ensures) (w .append .last .0) (w .append .last .1 .0) (w .append .ensures))
 
 pub deliver-optimistic-spec : {M : Type 1} → statement M
 deliver-optimistic-spec =
     tie.close
     (tie.spec
     returns
-    last-at-requires
-    get-requires
+    is-spent-requires
     same-length
     returns-2
     locate-requires
+    cast-if3
     same-length-2
     returns-3
     size-at-requires
-    get-requires-2
+    get-requires
     decode-requires
     enum-told
     enum-told-2

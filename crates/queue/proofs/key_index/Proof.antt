@@ -6,7 +6,7 @@ use native.Mathlib.Omega.{arith}
 use borrow.Author.Count.{below-more}
 use lib.ListN.{getD}
 use Rattle.cells.specs.Cells.{cells}
-use Rattle.queue.specs.Keys.{first-key}
+use Rattle.queue.specs.RowKeys.{first-key}
 use Rattle.queue.proofs.key_index.Statement.{statement}
 use Rattle.queue.proofs.key_index.Tie as tie
 

@@ -4,13 +4,18 @@ use Prim.Native.Nat.{ℕ, _*_, _-_}
 use native.Mathlib.Omega.{arith}
 use borrow.Author.Needs.{needs}
 use lib.ListN.{length}
-use Rattle.model.specs.Replica.{Replica}
+use Rattle.model.specs.Lists.{index}
+use Rattle.model.specs.Replica.{Replica, has-key}
 use Rattle.layout.specs.Offsets.{record-length}
 use Rattle.layout.specs.Holds.{Holds, holds-long}
+use Rattle.layout.specs.Printable.{few-pending}
 use Rattle.layout.specs.Reading.{count-read}
-use Rattle.queue.specs.Place.{rows-room, position-of}
+use Rattle.queue.specs.Place.{index-most, rows-room, position-of}
 use Rattle.queue.proofs.locate.Statement.{statement}
 use Rattle.queue.proofs.locate.Tie as tie
+
+abbrev start : tie.After-key-index → tie.Start
+start c = c .before .before .before .before .before .before .before .before
 
 -- the length of the area
 area : (c : tie.Start) → length (c .args .records .now) ≡ record-length (c .args .l)
@@ -59,18 +64,25 @@ key-index-requires c κs =
     rows-room (s .args .l) (s .pre .0) (s .args .records .now) (H .replica) (H .holds) at (length (s .args .records .now) - at) (c .row-width .result) (g .get .result)
     (ap (λ (i : ℕ). i * 8) (r .row-at .ensures .exact)) refl (c .row-width .ensures) (the-count g (H .replica) (H .holds))
 
-returns : tie.Need-returns
-returns c =
+-- where the search ended, of whichever replica the area holds
+the-position : (c : tie.After-key-index) (u : Replica) → Holds (start c .args .l) (start c .args .records .now) u → c .key-index .result ≡ index (has-key (start c .args .client) (start c .args .sequence)) (u .pending)
+the-position c u h =
     let r = c .before .before .before .before in
     let g = r .before in
-    let s = g .before .before .before in
+    let s = start c in
     let at = r .row-at .result * 8 in
-    record {
-      position = λ u h. c .key-index .ensures ∙ position-of (s .args .l) (s .pre .0) (s .args .records .now) u h at (length (s .args .records .now) - at) (c .before .row-width .result) (g .get .result)
-          (ap (λ (i : ℕ). i * 8) (r .row-at .ensures .exact)) refl (c .before .row-width .ensures) (the-count g u h)
-          (s .args .client) (s .args .sequence) (c .before .before .before .key-cell .result) (omega arith) (c .before .before .before .key-cell .ensures);
-      count = the-count g;
-    }
+    c .key-index .ensures ∙ position-of (s .args .l) (s .pre .0) (s .args .records .now) u h at (length (s .args .records .now) - at) (c .before .row-width .result) (g .get .result)
+    (ap (λ (i : ℕ). i * 8) (r .row-at .ensures .exact)) refl (c .before .row-width .ensures) (the-count g u h)
+    (s .args .client) (s .args .sequence) (c .before .before .before .key-cell .result) (omega arith) (c .before .before .before .key-cell .ensures)
+
+cast-t15 : tie.Need-cast-t15
+cast-t15 c =
+    let s = start c in
+    let H = s .pre .1 in
+    omega (arith, the-position c (H .replica) (H .holds), index-most (has-key (s .args .client) (s .args .sequence)) (H .replica .pending), few-pending (s .args .l) (H .replica) (H .holds .fits), s .pre .0 .pending)
+
+returns : tie.Need-returns
+returns c = record { position = the-position c; count = the-count (c .before .before .before .before .before) }
 
 pub locate-spec : {M : Type 1} → statement M
 locate-spec =
@@ -86,4 +98,5 @@ locate-spec =
     part-key-index-end
     row-width-requires
     key-index-requires
+    cast-t15
     returns)

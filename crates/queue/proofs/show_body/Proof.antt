@@ -15,7 +15,7 @@ use Rattle.queue.proofs.show_body.Tie as tie
 
 held-bodies : (c : tie.After-shared-slice-known) → HoldsBodies (c .before .args .l) (c .before .args .bodies .now) (parse (c .before .args .l) (c .before .args .records .now, c .before .args .bodies .now))
 held-bodies c =
-    fit-bodies (c .before .args .l) (c .before .pre .0) (c .before .args .records .now, c .before .args .bodies .now) (λ i. c .shared-slice-known .given i .fits) (c .before .pre .1)
+    fit-bodies (c .before .args .l) (c .before .pre .0 .sane) (c .before .args .records .now, c .before .args .bodies .now) (λ i. c .shared-slice-known .given i .fits) (c .before .pre .1)
 
 find-requires : tie.Need-find-requires
 find-requires c κs = search needs
@@ -33,8 +33,8 @@ returns : tie.Need-returns
 returns c =
     let f = c .before .before .before in
     let s = f .before .before .before in
-    shown-none (s .args .l) (s .pre .0) (s .args .records .now) (s .args .bodies) _ (s .args .client) (s .args .sequence) (s .pre .1) _
-    (sym (f .find .ensures) ∙ ap finding (c .before .enum-told .given .1)) refl refl
+    shown-none (s .args .l) (s .pre .0 .sane) (s .args .records .now) (s .args .bodies) _ (s .args .client) (s .args .sequence) (s .pre .1) _
+    (sym (f .find .ensures .answers) ∙ ap finding (c .before .enum-told .given .1)) refl refl
 
 cast-index : tie.Need-cast-index
 cast-index c = search needs
@@ -44,19 +44,19 @@ cast-n c = search needs
 
 -- Find's answer
 says : (c : tie.After-position) → act (c .before .before .before .before .before .args .l) (find (c .before .before .before .before .before .args .client) (c .before .before .before .before .before .args .sequence)) (c .before .before .before .before .before .args .records .now, c .before .before .before .before .before .args .bodies .now) .0 ≡ found (c .position .given .0 .0 .0) (c .position .given .0 .1 .0)
-says c = sym (c .before .before .find .ensures) ∙ ap finding (c .position .given .1)
+says c = sym (c .before .before .find .ensures .answers) ∙ ap finding (c .position .given .1)
 
 -- its place is within the limit, and its bytes are in the area
 low : (c : tie.After-position) → c .position .given .0 .0 .0 < c .before .before .before .before .before .args .l .pending
 low c =
     let s = c .before .before .before .before .before in
-    shown-low (s .args .l) (s .pre .0) (s .args .records .now) (s .args .bodies) (s .args .bodies) (s .args .client) (s .args .sequence) (s .pre .1) (held-bodies (c .before .before .before .before)) (c .position .given .0 .0 .0) (c .position .given .0 .1 .0) _ (says c) refl
+    shown-low (s .args .l) (s .pre .0 .sane) (s .args .records .now) (s .args .bodies) (s .args .bodies) (s .args .client) (s .args .sequence) (s .pre .1) (held-bodies (c .before .before .before .before)) (c .position .given .0 .0 .0) (c .position .given .0 .1 .0) _ (says c) refl
 
 body-at-requires : tie.Need-body-at-requires
 body-at-requires c κs =
     let p = c .before .before in
     let s = p .before .before .before .before .before in
-    (s .pre .0, omega (arith, low p))
+    (s .pre .0 .sane, omega (arith, low p))
 
 add-end : tie.Need-add-end
 add-end c = search needs
@@ -71,14 +71,14 @@ part-result-end : tie.Need-part-result-end
 part-result-end c =
     let p = c .before .before .before in
     let s = p .before .before .before .before .before in
-    shown-room (s .args .l) (s .pre .0) (s .args .records .now) (s .args .bodies) (s .args .bodies) (s .args .client) (s .args .sequence) (s .pre .1) (held-bodies (p .before .before .before .before)) (p .position .given .0 .0 .0) (p .position .given .0 .1 .0) (c .body-at .result) (says p) (c .body-at .ensures .exact)
+    shown-room (s .args .l) (s .pre .0 .sane) (s .args .records .now) (s .args .bodies) (s .args .bodies) (s .args .client) (s .args .sequence) (s .pre .1) (held-bodies (p .before .before .before .before)) (p .position .given .0 .0 .0) (p .position .given .0 .1 .0) (c .body-at .result) (says p) (c .body-at .ensures .exact)
 
 returns-2 : tie.Need-returns-2
 returns-2 c =
     let b = c .before in
     let p = b .before .before .before in
     let s = p .before .before .before .before .before in
-    shown-some (s .args .l) (s .pre .0) (s .args .records .now) (s .args .bodies) _ (s .args .client) (s .args .sequence) (s .pre .1) (held-bodies (p .before .before .before .before)) (p .position .given .0 .0 .0) (p .position .given .0 .1 .0) (b .body-at .result) (says p) (b .body-at .ensures .exact)
+    shown-some (s .args .l) (s .pre .0 .sane) (s .args .records .now) (s .args .bodies) _ (s .args .client) (s .args .sequence) (s .pre .1) (held-bodies (p .before .before .before .before)) (p .position .given .0 .0 .0) (p .position .given .0 .1 .0) (b .body-at .result) (says p) (b .body-at .ensures .exact)
     refl refl
 
 pub show-body-spec : {M : Type 1} → statement M

@@ -1,4 +1,4 @@
--- `replica::find` meets its contract: it is `find_within` at the standard limits. Assumes nothing.
+-- `replica::find` meets its contract: it is `replica_calls::find` at the standard limits. Assumes nothing.
 use borrow.Author.Needs.{needs}
 use Rattle.model.specs.Limits.{standard}
 use Rattle.replica.proofs.find.Statement.{statement}
@@ -7,13 +7,13 @@ use Rattle.replica.proofs.find.Tie as tie
 standard-shape-requires : tie.Need-standard-shape-requires
 standard-shape-requires c κs = search needs
 
-find-within-requires : tie.Need-find-within-requires
+find-requires : tie.Need-find-requires
 unfolding standard
-find-within-requires c κs = (search needs, c .standard-shape .ensures)
+find-requires c κs = (search needs, c .standard-shape .ensures)
 
 returns : tie.Need-returns
 unfolding standard
-returns c = c .find-within .ensures
+returns c = c .find .ensures
 
 pub find-spec : {M : Type 1} → statement M
-find-spec = tie.close (tie.spec standard-shape-requires find-within-requires returns)
+find-spec = tie.close (tie.spec standard-shape-requires find-requires returns)

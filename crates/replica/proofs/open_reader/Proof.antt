@@ -1,4 +1,4 @@
--- `replica::open_reader` meets its contract: it is `open_reader_within` at the standard limits. Assumes nothing.
+-- `replica::open_reader` meets its contract: it is `replica_calls::open_reader` at the standard limits. Assumes nothing.
 use borrow.Author.Needs.{needs}
 use Rattle.model.specs.Limits.{standard}
 use Rattle.replica.proofs.open_reader.Statement.{statement}
@@ -7,16 +7,16 @@ use Rattle.replica.proofs.open_reader.Tie as tie
 standard-shape-requires : tie.Need-standard-shape-requires
 standard-shape-requires c κs = search needs
 
-open-reader-within-requires : tie.Need-open-reader-within-requires
+open-reader-requires : tie.Need-open-reader-requires
 unfolding standard
-open-reader-within-requires c κs = (search needs, c .before .standard-shape .ensures)
+open-reader-requires c κs = (search needs, c .before .standard-shape .ensures)
 
 same-length : tie.Need-same-length
 same-length c = search needs
 
 returns : tie.Need-returns
 unfolding standard
-returns c = c .before .before .open-reader-within .ensures
+returns c = c .before .before .open-reader .ensures
 
 pub open-reader-spec : {M : Type 1} → statement M
-open-reader-spec = tie.close (tie.spec standard-shape-requires open-reader-within-requires same-length returns)
+open-reader-spec = tie.close (tie.spec standard-shape-requires open-reader-requires same-length returns)

@@ -17,16 +17,16 @@ use Rattle.rows.proofs.committed_values.Statement.{statement}
 use Rattle.rows.proofs.committed_values.Tie as tie
 
 abbrev Inv-loop : tie.InvT-loop
-Inv-loop area l values₀ n i₀ values i = (i ≤ n) × (length values ≡ 128) × ((k : ℕ) → k < i → getD values k (pos 0) ≡ value-in l (cells area) k)
+Inv-loop records l values₀ n i₀ values i = (i ≤ n) × (length values ≡ 128) × ((k : ℕ) → k < i → getD values k (pos 0) ≡ value-in l (cells records) k)
 
 abbrev μ-loop : tie.MeasureT-loop
-μ-loop area l values₀ n i₀ values i = n - i
+μ-loop records l values₀ n i₀ values i = n - i
 
 -- the number of objects, as the cell has it
-size : (c : tie.After-get Inv-loop μ-loop) → (let s = c .before .before .before in c .get .result ≡ getD (cells (now (s .args .area))) (size-at (s .args .l)) 0)
+size : (c : tie.After-get Inv-loop μ-loop) → (let s = c .before .before .before in c .get .result ≡ getD (cells (now (s .args .records))) (size-at (s .args .l)) 0)
 size c =
     let s = c .before .before .before in
-    c .get .ensures ∙ ap (λ (k : ℕ). getD (cells (now (s .args .area))) k 0) (c .before .size-at .ensures .exact)
+    c .get .ensures ∙ ap (λ (k : ℕ). getD (cells (now (s .args .records))) k 0) (c .before .size-at .ensures .exact)
 
 -- an index that is passed is an object's
 low : (c : tie.In-loop Inv-loop μ-loop) → (let l = c .before in l .loop .i < l .before .before .before .before .args .l .objects)
@@ -46,7 +46,7 @@ get-requires c κs = let s = c .before .before in omega (arith, c .size-at .ensu
 loop-holds : tie.Need-loop-holds Inv-loop μ-loop
 loop-holds c =
     let s = c .before .before .before in
-    (omega arith, s .pre .2, below-none (λ k. getD (now (s .args .values)) k (pos 0) ≡ value-in (s .args .l) (cells (now (s .args .area))) k))
+    (omega arith, s .pre .2, below-none (λ k. getD (now (s .args .values)) k (pos 0) ≡ value-in (s .args .l) (cells (now (s .args .records))) k))
 
 object-at-requires : tie.Need-object-at-requires Inv-loop μ-loop
 object-at-requires c κs = let s = c .before .before .before .before .before in (s .pre .0, omega (arith, low c))
@@ -78,7 +78,7 @@ loop-again c =
     let e = c .before .object-at .ensures .exact in (
       omega arith,
       length-set (l .loop .values) i _ ∙ v .1,
-      fill-next (value-in (a .l) (cells (now (a .area)))) (pos 0) (l .loop .values) i _ (omega (arith, below (c .before .before), v .1)) (v .2) (told (c .get-signed .ok) (c .get-signed .ensures ∙ ap (λ (k : ℕ). toZ w64 (getD (cells (now (a .area))) (k + 2) 0)) e)),
+      fill-next (value-in (a .l) (cells (now (a .records)))) (pos 0) (l .loop .values) i _ (omega (arith, below (c .before .before), v .1)) (v .2) (told (c .get-signed .ok) (c .get-signed .ensures ∙ ap (λ (k : ℕ). toZ w64 (getD (cells (now (a .records))) (k + 2) 0)) e)),
     )
 
 returns : tie.Need-returns Inv-loop μ-loop
@@ -92,7 +92,7 @@ returns c =
     record {
       size = size (l .before);
       room = v .1;
-      values = take-listed (value-in (a .l) (cells (now (a .area)))) (pos 0) (l .loop .values) n (omega (arith, size (l .before), p .1 .few, p .1 .room, v .1)) (rw e at (v .2));
+      values = take-listed (value-in (a .l) (cells (now (a .records)))) (pos 0) (l .loop .values) n (omega (arith, size (l .before), p .1 .few, p .1 .room, v .1)) (rw e at (v .2));
     }
 
 pub committed-values-spec : {M : Type 1} → statement M

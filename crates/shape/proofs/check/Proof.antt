@@ -2,7 +2,7 @@
 use mathlib.Core.Path.{sym, _∙_}
 use borrow.Author.Needs.{needs}
 use Rattle.cells.specs.Cells.{cells}
-use Rattle.shape.specs.Whole.{fit-other, header-timestamp, fit-header, fit-objects, fit-pending}
+use Rattle.shape.specs.ScanIsShape.{fit-other, header-timestamp, fit-header, fit-objects, fit-pending}
 use Rattle.shape.proofs.check.Statement.{statement}
 use Rattle.shape.proofs.check.Tie as tie
 

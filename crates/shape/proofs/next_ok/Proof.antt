@@ -1,37 +1,50 @@
 -- `shape::next_ok` meets its contract: a law for each answer.
-use mathlib.Core.Path.{sym, ap, _∙_}
+use mathlib.Core.Path.{_≡_, sym, ap, _∙_}
 use mathlib.Core.List.{List}
-use Prim.Native.Nat.{ℕ, _*_}
+use Prim.Native.Nat.{ℕ, _*_, _≤_}
 use native.Mathlib.Omega.{arith}
-use lib.ListN.{length-take, length-drop}
+use lib.ListN.{length, take}
 use lib.Seq.{length-take-le}
 use borrow.Author.Needs.{needs}
 use Rattle.cells.specs.Cells.{cells}
-use Rattle.cells.specs.Laws.{cells-take}
-use Rattle.layout.specs.Rows.{chunks}
-use Rattle.row_shape.specs.Scan.{absent, row-in, cells-of}
-use Rattle.row_shape.specs.Steps.{rest-cells}
-use Rattle.shape.specs.Steps.{one-more, next-row, next-order, next-key}
+use Rattle.cells.specs.CellLaws.{cells-take}
+use Rattle.shape_row.specs.RowScan.{row-in, cells-of}
+use Rattle.shape.specs.RowLoop.{next-row, next-order}
 use Rattle.shape.proofs.next_ok.Statement.{statement}
 use Rattle.shape.proofs.next_ok.Tie as tie
 
-mul-width : tie.Need-mul-width
-mul-width c = search needs
+-- ---- waypoints: the first row, lent, and what was said of it
 
-add-width : tie.Need-add-width
-add-width c = search needs
+abbrev start : tie.After-row-cells → tie.Start
+start c = c .before .before .before .before
+
+inside : (c : tie.After-row-cells) → c .row-cells .result * 8 ≤ length (start c .args .rows .now)
+inside c = omega (arith, c .row-cells .ensures, start c .pre .0 .row-cells)
+
+row : (c : tie.After-row-ok) → (let a = start (c .before .before) .args in c .row-ok .result ≡ row-in (a .most) (a .n) (cells (a .lasts .now)) (take (cells-of (a .most)) (cells (a .rows .now))) (a .place .now))
+row c =
+    let at-cells = c .before .before in
+    let a = start at-cells .args in
+    rw (at-cells .row-cells .ensures) at (c .row-ok .ensures)
+    ∙ ap (λ (x : List ℕ). row-in (a .most) (a .n) (cells (a .lasts .now)) x (a .place .now)) (cells-take (cells-of (a .most)) (a .rows .now))
+
+row-cells-requires : tie.Need-row-cells-requires
+row-cells-requires c κs = search needs
 
 mul-end : tie.Need-mul-end
 mul-end c = search needs
 
 slice-aggregate-row-ok : tie.Need-slice-aggregate-row-ok
-slice-aggregate-row-ok c = let a = c .before .before .before .before .args in
-    sym (length-take-le (cells-of (a .most) * 8) (a .rows .now) (omega (arith, one-more (a .later) (cells-of (a .most) * 8))))
+slice-aggregate-row-ok c =
+    let at-cells = c .before in
+    sym (length-take-le (at-cells .row-cells .result * 8) (start at-cells .args .rows .now) (inside at-cells))
 
 row-ok-requires : tie.Need-row-ok-requires
-row-ok-requires c κs = let d = c .before .before .before .before in
-    let a = d .args in
-    record { row-cells = length-take-le (cells-of (a .most) * 8) (a .rows .now) (omega (arith, one-more (a .later) (cells-of (a .most) * 8))); place-bytes = d .pre .1; last-cells = d .pre .0 .last-cells; few = d .pre .0 .few }
+row-ok-requires c κs =
+    let at-cells = c .before in
+    let d = start at-cells in
+    let size = length-take-le (at-cells .row-cells .result * 8) (d .args .rows .now) (inside at-cells) in
+    record { row-cells = size ∙ ap (λ (k : ℕ). k * 8) (at-cells .row-cells .ensures); place-bytes = d .pre .1; last-cells = d .pre .0 .last-cells; few = d .pre .0 .few }
 
 get-requires : tie.Need-get-requires
 get-requires c κs = search needs
@@ -39,56 +52,27 @@ get-requires c κs = search needs
 order-ok-requires : tie.Need-order-ok-requires
 order-ok-requires c κs = search needs
 
-sub-absent : tie.Need-sub-absent
-sub-absent c = search needs
-
-part-absent-start : tie.Need-part-absent-start
-part-absent-start c = search needs
-
-part-absent-end : tie.Need-part-absent-end
-part-absent-end c = search needs
-
-get-requires-2 : tie.Need-get-requires-2
-get-requires-2 c κs = search needs
-
-absent-requires : tie.Need-absent-requires
-absent-requires c κs = (search needs, simp (length-take, length-drop) (omega (arith, one-more (c .before .before .before .before .before .before .before .before .before .before .before .args .later) (cells-of (c .before .before .before .before .before .before .before .before .before .before .before .args .most) * 8))))
-
 returns : tie.Need-returns
-returns c = let a = c .before .before .before .before .before .before .before .before .before .before .before .before .args in
-    let p = c .before .before .before .before .before .before .before .row-ok in
-    let k = c .before .before .before .before .before .get in
-    let q = c .before .before .before .before .order-ok in
-    next-key (a .most) (a .n) (cells (a .lasts .now)) (a .finished) (a .later) (cells (a .rows .now)) (a .place .now) (p .result) (p .ensures ∙ ap (λ (x : List ℕ). row-in (a .most) (a .n) (cells (a .lasts .now)) x (a .place .now)) (cells-take (cells-of (a .most)) (a .rows .now))) (c .before .before .before .before .before .before .if1 .taken) (k .result) (k .ensures) (q .result) (q .ensures) (c .before .before .before .if2 .taken) (c .absent .result) (c .before .get2 .result) (c .before .get2 .ensures) (c .absent .ensures ∙ ap (λ (x : List ℕ). absent (c .before .get2 .result) (chunks (cells-of (a .most)) (a .later) x)) (rest-cells (a .rows .now) (cells-of (a .most))))
+returns c =
+    let at-row = c .before .before .before in
+    let a = start (at-row .before .before) .args in
+    next-order (a .most) (a .n) (cells (a .lasts .now)) (a .finished) (cells (a .rows .now)) (a .place .now) (at-row .row-ok .result) (row at-row) (c .before .before .if1 .taken) (c .before .get .result) (c .before .get .ensures) (c .order-ok .result) (c .order-ok .ensures)
 
 returns-2 : tie.Need-returns-2
-returns-2 c = let a = c .before .before .before .before .before .before .before .before .before .args in
-    let p = c .before .before .before .before .row-ok in
-    let k = c .before .before .get in
-    let q = c .before .order-ok in
-    next-order (a .most) (a .n) (cells (a .lasts .now)) (a .finished) (a .later) (cells (a .rows .now)) (a .place .now) (p .result) (p .ensures ∙ ap (λ (x : List ℕ). row-in (a .most) (a .n) (cells (a .lasts .now)) x (a .place .now)) (cells-take (cells-of (a .most)) (a .rows .now))) (c .before .before .before .if1 .taken) (k .result) (k .ensures) (q .result) (q .ensures) (c .if2 .left)
-
-returns-3 : tie.Need-returns-3
-returns-3 c = let a = c .before .before .before .before .before .before .args in
-    let p = c .before .row-ok in
-    next-row (a .most) (a .n) (cells (a .lasts .now)) (a .finished) (a .later) (cells (a .rows .now)) (a .place .now) (p .result) (p .ensures ∙ ap (λ (x : List ℕ). row-in (a .most) (a .n) (cells (a .lasts .now)) x (a .place .now)) (cells-take (cells-of (a .most)) (a .rows .now))) (c .if1 .left)
+returns-2 c =
+    let at-row = c .before in
+    let a = start (at-row .before .before) .args in
+    next-row (a .most) (a .n) (cells (a .lasts .now)) (a .finished) (cells (a .rows .now)) (a .place .now) (at-row .row-ok .result) (row at-row) (c .if1 .left)
 
 pub next-ok-spec : {M : Type 1} → statement M
 next-ok-spec =
     tie.close
     (tie.spec
-    mul-width
-    add-width
+    row-cells-requires
     mul-end
     slice-aggregate-row-ok
     row-ok-requires
     get-requires
     order-ok-requires
-    sub-absent
-    part-absent-start
-    part-absent-end
-    get-requires-2
-    absent-requires
     returns
-    returns-2
-    returns-3)
+    returns-2)

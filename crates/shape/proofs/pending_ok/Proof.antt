@@ -1,12 +1,30 @@
 -- `shape::pending_ok` meets its contract: a law for each answer.
-use mathlib.Core.Path.{ap, _∙_}
-use Prim.Native.Nat.{ℕ}
+use mathlib.Core.Path.{_≡_, ap, _∙_}
+use Prim.Native.Nat.{ℕ, _*_}
+use native.Mathlib.Nat.{mul-le-mul-right}
+use native.Mathlib.Omega.{arith}
 use lib.ListN.{getD}
 use borrow.Author.Needs.{needs}
 use Rattle.cells.specs.Cells.{cells}
-use Rattle.shape.specs.Parts.{pending-many, pending-rows, pending-behind, pending-bodies}
+use Rattle.layout.specs.Offsets.{row-width}
+use Rattle.layout.specs.Unchecked.{pending-in}
+use Rattle.shape.specs.PendingParts.{pending-many, pending-rows, pending-behind, pending-bodies}
 use Rattle.shape.proofs.pending_ok.Statement.{statement}
 use Rattle.shape.proofs.pending_ok.Tie as tie
+
+-- ---- waypoints: the entry, and the number of pending transactions as it was read, within its limit
+
+abbrev start : tie.After-get → tie.Start
+start c = c .before .before .before .before
+
+pending : (c : tie.After-get) → (let a = start c .args in c .get .result ≡ pending-in (a .l) (cells (a .area .now)))
+pending c = c .get .ensures ∙ ap (λ (i : ℕ). getD (cells (start c .args .area .now)) i 0) (c .before .pending-at .ensures .exact)
+
+abbrev few : tie.After-body-at → tie.Else1
+few c = c .before .before .before
+
+abbrev count : tie.After-body-at → tie.After-get
+count c = few c .before .before
 
 pending-at-requires : tie.Need-pending-at-requires
 pending-at-requires c κs = search needs
@@ -15,88 +33,81 @@ get-requires : tie.Need-get-requires
 get-requires c κs = search needs
 
 returns : tie.Need-returns
-returns c = let a = c .before .before .before .before .before .before .args in
-    let k = c .before .before .get in
-    pending-many (a .l) (a .area .now) (a .bodies .now) (k .result) (k .ensures ∙ ap (λ (i : ℕ). getD (cells (a .area .now)) i 0) (c .before .before .before .pending-at .ensures .exact)) (c .if1 .taken)
-
-add-get : tie.Need-add-get
-add-get c = search needs
-
-get-requires-2 : tie.Need-get-requires-2
-get-requires-2 c κs = search needs
+returns c =
+    let k = c .before .before in
+    let a = start k .args in
+    pending-many (a .l) (a .area .now) (a .bodies .now) (k .get .result) (pending k) (c .if1 .taken)
 
 row-at-requires : tie.Need-row-at-requires
 row-at-requires c κs = search needs
 
-mul-first : tie.Need-mul-first
-mul-first c = search needs
+mul-end : tie.Need-mul-end
+mul-end c = search needs
 
 row-at-requires-2 : tie.Need-row-at-requires-2
 row-at-requires-2 c κs = search needs
 
-mul-end : tie.Need-mul-end
-mul-end c = search needs
+mul-tail : tie.Need-mul-tail
+mul-tail c = search needs
 
 body-at-requires : tie.Need-body-at-requires
 body-at-requires c κs = search needs
 
-sub-rows-ok : tie.Need-sub-rows-ok
-sub-rows-ok c = search needs
-
-part-rows-ok-start : tie.Need-part-rows-ok-start
-part-rows-ok-start c = search needs
-
-part-rows-ok-end : tie.Need-part-rows-ok-end
-part-rows-ok-end c = search needs
-
-sub-rows-ok-2 : tie.Need-sub-rows-ok-2
-sub-rows-ok-2 c = search needs
-
-part-rows-ok-start-2 : tie.Need-part-rows-ok-start-2
-part-rows-ok-start-2 c = search needs
-
-part-rows-ok-end-2 : tie.Need-part-rows-ok-end-2
-part-rows-ok-end-2 c = search needs
-
-rows-ok-requires : tie.Need-rows-ok-requires
-rows-ok-requires c κs = search needs
+used-ok-requires : tie.Need-used-ok-requires
+used-ok-requires c κs = search needs
 
 all-zero-requires : tie.Need-all-zero-requires
-all-zero-requires c κs = search needs
+all-zero-requires c κs =
+    let at-body = c .before .before in
+    let tail = at-body .before .row-at2 .ensures in
+    let end = at-body .before .before .row-at .ensures in
+    let d = start (count at-body) in (
+      omega (arith, end .exact, tail .exact, mul-le-mul-right (row-width (d .args .l)) (few at-body .if1 .left)),
+      omega (arith, tail .inside, d .pre .0 .whole),
+    )
 
 all-zero-requires-2 : tie.Need-all-zero-requires-2
 all-zero-requires-2 c κs = search needs
 
 returns-2 : tie.Need-returns-2
-returns-2 c = let d = c .before .before .before .before .before .before .before .before .before .before .before .before .before .before .before .before .before .before in
+returns-2 c =
+    let at-zero = c .before .before in
+    let at-used = at-zero .before .before in
+    let at-body = at-used .before in
+    let b = at-body .body-at in
+    let t = at-body .before .row-at2 in
+    let g = at-body .before .before .row-at in
+    let k = count at-body in
+    let d = start k in
     let a = d .args in
-    let k = c .before .before .before .before .before .before .before .before .before .before .before .before .before .before .get in
-    let n = c .before .before .before .before .before .before .before .before .before .before .get2 in
-    let f = c .before .before .before .before .before .before .before .before .before .row-at in
-    let g = c .before .before .before .before .before .before .before .before .row-at2 in
-    let b = c .before .before .before .before .before .before .before .body-at in
-    let p = c .before .before .before .before .rows-ok in
-    let q = c .before .before .all-zero in
-    pending-bodies (a .l) (a .area .now) (a .bodies .now) (k .result) (k .ensures ∙ ap (λ (i : ℕ). getD (cells (a .area .now)) i 0) (c .before .before .before .before .before .before .before .before .before .before .before .before .before .before .before .pending-at .ensures .exact)) (c .before .before .before .before .before .before .before .before .before .before .before .before .if1 .left) (n .result) (f .result) (n .ensures) (f .ensures .exact) (p .result) (p .ensures) (c .before .before .before .if2 .taken) (d .pre .0 .whole) (g .result) (g .ensures .exact) (q .result) (q .ensures) (c .before .if3 .taken) (b .result) (b .ensures .exact) (c .all-zero2 .result) (c .all-zero2 .ensures)
+    let p = at-used .used-ok in
+    let q = at-zero .all-zero in
+    pending-bodies (a .l) (a .area .now) (a .bodies .now) (k .get .result) (pending k) (few at-body .if1 .left) (p .result) (p .ensures) (at-zero .before .if2 .taken) (g .result) (t .result) (omega (arith, t .ensures .inside, d .pre .0 .whole)) (g .ensures .exact) (t .ensures .exact)
+    (q .result) (q .ensures) (c .before .if3 .taken) (b .result) (b .ensures .exact) (c .all-zero2 .result) (c .all-zero2 .ensures)
 
 returns-3 : tie.Need-returns-3
-returns-3 c = let d = c .before .before .before .before .before .before .before .before .before .before .before .before .before .before .before .before .before in
+returns-3 c =
+    let at-zero = c .before in
+    let at-used = at-zero .before .before in
+    let at-body = at-used .before in
+    let t = at-body .before .row-at2 in
+    let g = at-body .before .before .row-at in
+    let k = count at-body in
+    let d = start k in
     let a = d .args in
-    let k = c .before .before .before .before .before .before .before .before .before .before .before .before .before .get in
-    let n = c .before .before .before .before .before .before .before .before .before .get2 in
-    let f = c .before .before .before .before .before .before .before .before .row-at in
-    let g = c .before .before .before .before .before .before .before .row-at2 in
-    let p = c .before .before .before .rows-ok in
-    let q = c .before .all-zero in
-    pending-behind (a .l) (a .area .now) (a .bodies .now) (k .result) (k .ensures ∙ ap (λ (i : ℕ). getD (cells (a .area .now)) i 0) (c .before .before .before .before .before .before .before .before .before .before .before .before .before .before .pending-at .ensures .exact)) (c .before .before .before .before .before .before .before .before .before .before .before .if1 .left) (n .result) (f .result) (n .ensures) (f .ensures .exact) (p .result) (p .ensures) (c .before .before .if2 .taken) (d .pre .0 .whole) (g .result) (g .ensures .exact) (q .result) (q .ensures) (c .if3 .left)
+    let p = at-used .used-ok in
+    let q = at-zero .all-zero in
+    pending-behind (a .l) (a .area .now) (a .bodies .now) (k .get .result) (pending k) (few at-body .if1 .left) (p .result) (p .ensures) (at-zero .before .if2 .taken) (g .result) (t .result) (omega (arith, t .ensures .inside, d .pre .0 .whole)) (g .ensures .exact) (t .ensures .exact)
+    (q .result) (q .ensures) (c .if3 .left)
 
 returns-4 : tie.Need-returns-4
-returns-4 c = let a = c .before .before .before .before .before .before .before .before .before .before .before .before .before .before .before .args in
-    let k = c .before .before .before .before .before .before .before .before .before .before .before .get in
-    let n = c .before .before .before .before .before .before .before .get2 in
-    let f = c .before .before .before .before .before .before .row-at in
-    let p = c .before .rows-ok in
-    pending-rows (a .l) (a .area .now) (a .bodies .now) (k .result) (k .ensures ∙ ap (λ (i : ℕ). getD (cells (a .area .now)) i 0) (c .before .before .before .before .before .before .before .before .before .before .before .before .pending-at .ensures .exact)) (c .before .before .before .before .before .before .before .before .before .if1 .left) (n .result) (f .result) (n .ensures) (f .ensures .exact) (p .result) (p .ensures) (c .if2 .left)
+returns-4 c =
+    let at-used = c .before in
+    let at-body = at-used .before in
+    let k = count at-body in
+    let a = start k .args in
+    let p = at-used .used-ok in
+    pending-rows (a .l) (a .area .now) (a .bodies .now) (k .get .result) (pending k) (few at-body .if1 .left) (p .result) (p .ensures) (c .if2 .left)
 
 pub pending-ok-spec : {M : Type 1} → statement M
 pending-ok-spec =
@@ -105,20 +116,12 @@ pending-ok-spec =
     pending-at-requires
     get-requires
     returns
-    add-get
-    get-requires-2
     row-at-requires
-    mul-first
-    row-at-requires-2
     mul-end
+    row-at-requires-2
+    mul-tail
     body-at-requires
-    sub-rows-ok
-    part-rows-ok-start
-    part-rows-ok-end
-    sub-rows-ok-2
-    part-rows-ok-start-2
-    part-rows-ok-end-2
-    rows-ok-requires
+    used-ok-requires
     all-zero-requires
     all-zero-requires-2
     returns-2

@@ -5,12 +5,13 @@ use native.Mathlib.Omega.{arith}
 use lib.ListN.{length}
 use borrow.Author.Needs.{needs}
 use borrow.Rule.Slice.PartMut.{mid-len}
+use Rattle.cells.specs.Cells.{cells}
 use Rattle.model.specs.Replica.{Replica}
 use Rattle.layout.specs.Offsets.{size-at}
 use Rattle.layout.specs.OffsetLaws.{blocks-span}
 use Rattle.layout.specs.Holds.{Holds}
 use Rattle.layout.specs.Reading.{cell-inside, size-read, size-few, object-inside}
-use Rattle.snapshots.specs.Blocks.{copied-readers, lent-ordered, pruned-back}
+use Rattle.snapshots.specs.ReaderBlocks.{copied-readers, lent-checked, pruned-back}
 use Rattle.snapshots.proofs.prune.Statement.{statement}
 use Rattle.snapshots.proofs.prune.Tie as tie
 
@@ -102,9 +103,17 @@ prune-objects-requires c κs =
     let p = e .pre in
     let f = c .before .before .before .object-at in
     let t = c .before .before .object-at2 in
+    let r = g .before .before .before .before .copy in
+    let n = g .before .before .before .before .before .before .before .before in
+    let q = n .before .reader-at in
     let w = blocks-span (e .args .l) (g .get .result) (f .result) (t .result) (f .ensures .exact) (t .ensures .exact) in (
       record { reader-cells = search needs; block-cells = mid-len (f .result * 8) (t .result * 8) (e .args .records .now) (ends (c .before .before)) ∙ w; few = omega (arith, p .sane .readers) },
-      lent-ordered (e .args .l) (p .sane) (e .args .records .now) (p .replica) (p .holds) (g .get .result) (f .result) _ (objects g (p .replica) (p .holds)) (f .ensures .exact) w (p .order),
+      (
+        omega (arith, p .cell),
+        lent-checked (e .args .l) (p .sane) (e .args .records .now) (p .replica) (p .holds) (g .get .result) (f .result) _ (objects g (p .replica) (p .holds)) (f .ensures .exact) w (p .replica .timestamp) (e .args .cell) (p .reader) (cells (r .last .1 .0)) (p .cell) (p .few)
+            (copied-readers (e .args .l) (p .sane) (e .args .records .now) (p .replica) (p .holds) (q .result) (n .size-at .result) (q .ensures .exact) (n .size-at .ensures .exact) (e .args .snapshots .now) (r .last .1 .0) (p .room) (r .ensures .1))
+            (p .versions),
+      ),
     )
 
 same-length : tie.Need-same-length
@@ -125,7 +134,7 @@ returns c =
     let n = c .before .before .before .before .before .before .before .before .before .before .before .before .before .before .before in
     let q = n .before .reader-at in
     let w = blocks-span (a .l) (g .get .result) (f .result) (t .result) (f .ensures .exact) (t .ensures .exact) in
-    λ u h o. pruned-back (a .l) (p .sane) (a .records .now) u h (g .get .result) (f .result) _ (objects g u h) (f .ensures .exact) w _ (c .before .before .prune-objects .last .0) _
+    λ u h. pruned-back (a .l) (p .sane) (a .records .now) u h (g .get .result) (f .result) _ (objects g u h) (f .ensures .exact) w _ (c .before .before .prune-objects .last .0) _
     (copied-readers (a .l) (p .sane) (a .records .now) u h (q .result) (n .size-at .result) (q .ensures .exact) (n .size-at .ensures .exact) (a .snapshots .now) (r .last .1 .0) (p .room) (r .ensures .1)) (c .before .before .prune-objects .ensures) refl
 
 pub prune-spec : {M : Type 1} → statement M

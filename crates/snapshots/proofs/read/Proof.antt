@@ -7,12 +7,14 @@ use borrow.Author.Needs.{needs}
 use borrow.Rule.Slice.PartMut.{mid-len}
 use Rattle.cells.specs.Signed.{told}
 use Rattle.model.specs.Replica.{Replica}
+use Rattle.model.specs.Calls.{read}
 use Rattle.layout.specs.Offsets.{reader-at, size-at}
 use Rattle.layout.specs.OffsetLaws.{block-span}
 use Rattle.layout.specs.Holds.{Holds}
 use Rattle.layout.specs.Reading.{cell-inside, size-read, size-few, object-inside}
-use Rattle.snapshots.specs.Blocks.{lent-count}
-use Rattle.snapshots.specs.Readers.{read-no-reader, read-not-open, read-no-object, read-done}
+use Rattle.snapshots.specs.ReaderBlocks.{lent-count}
+use Rattle.layout.specs.Contract.{met-beside}
+use Rattle.snapshots.specs.ReaderAnswers.{read-bodies, read-no-reader, read-not-open, read-no-object, read-done}
 use Rattle.snapshots.proofs.read.Statement.{statement}
 use Rattle.snapshots.proofs.read.Tie as tie
 
@@ -24,28 +26,28 @@ entry c = c .before .before .before .before .before .before .before .before
 objects : (c : tie.After-get2) (u : Replica) → Holds (entry c .args .l) (entry c .args .records .now) u → c .get2 .result ≡ length (u .objects)
 objects c u h =
     let e = entry c in
-    size-read (e .args .l) (e .pre .sane) (e .args .records .now) u h (c .before .size-at .result) (c .get2 .result) (c .get2 .ensures) (c .before .size-at .ensures .exact)
+    size-read (e .args .l) (e .pre .0 .sane) (e .args .records .now) u h (c .before .size-at .result) (c .get2 .result) (c .get2 .ensures) (c .before .size-at .ensures .exact)
 
 few : (c : tie.After-get2) → c .get2 .result ≤ entry c .args .l .objects
 few c =
     let e = entry c in
-    let p = e .pre in
-    size-few (e .args .l) (p .sane) (e .args .records .now) (p .replica) (p .holds) (c .before .size-at .result) (c .get2 .result) (c .get2 .ensures) (c .before .size-at .ensures .exact)
+    let p = e .pre .1 in
+    size-few (e .args .l) (e .pre .0 .sane) (e .args .records .now) (p .replica) (p .holds) (c .before .size-at .result) (c .get2 .result) (c .get2 .ensures) (c .before .size-at .ensures .exact)
 
 returns : tie.Need-returns
 returns c =
     let e = c .before .before .before in
     let a = e .args in
-    λ u h g. read-no-reader (a .l) (e .pre .sane) (a .records .now) u h (a .reader) (search needs) (a .object)
+    met-beside (a .l) (e .pre .0 .sane) (read (a .reader) (a .object)) (a .records .now) (e .pre .1 .bytes) _ _ (read-bodies (a .l) (a .reader) (a .object)) (λ u h g. read-no-reader (a .l) (e .pre .0 .sane) (a .records .now) u h (a .reader) (search needs) (a .object))
 
 reader-at-requires : tie.Need-reader-at-requires
-reader-at-requires c κs = (c .before .before .before .pre .sane, omega arith)
+reader-at-requires c κs = (c .before .before .before .pre .0 .sane, omega arith)
 
 get-requires : tie.Need-get-requires
 get-requires c κs =
     let e = c .before .before .before .before in
-    let p = e .pre in
-    omega (arith, c .reader-at .ensures .exact, cell-inside (e .args .l) (p .sane) (e .args .records .now) (p .replica) (p .holds) (reader-at (e .args .reader)) (omega arith))
+    let p = e .pre .1 in
+    omega (arith, c .reader-at .ensures .exact, cell-inside (e .args .l) (e .pre .0 .sane) (e .args .records .now) (p .replica) (p .holds) (reader-at (e .args .reader)) (omega arith))
 
 returns-2 : tie.Need-returns-2
 returns-2 c =
@@ -53,16 +55,16 @@ returns-2 c =
     let a = e .args in
     let x = c .before .get in
     let at = c .before .before .reader-at in
-    λ u h g. read-not-open (a .l) (e .pre .sane) (a .records .now) u h (a .reader) (search needs) (at .result) (at .ensures .exact) (x .result) (x .ensures) (search needs) (a .object)
+    met-beside (a .l) (e .pre .0 .sane) (read (a .reader) (a .object)) (a .records .now) (e .pre .1 .bytes) _ _ (read-bodies (a .l) (a .reader) (a .object)) (λ u h g. read-not-open (a .l) (e .pre .0 .sane) (a .records .now) u h (a .reader) (search needs) (at .result) (at .ensures .exact) (x .result) (x .ensures) (search needs) (a .object))
 
 size-at-requires : tie.Need-size-at-requires
-size-at-requires c κs = c .before .before .before .before .before .before .pre .sane
+size-at-requires c κs = c .before .before .before .before .before .before .pre .0 .sane
 
 get-requires-2 : tie.Need-get-requires-2
 get-requires-2 c κs =
     let e = c .before .before .before .before .before .before .before in
-    let p = e .pre in
-    omega (arith, c .size-at .ensures .exact, cell-inside (e .args .l) (p .sane) (e .args .records .now) (p .replica) (p .holds) (size-at (e .args .l)) (omega arith))
+    let p = e .pre .1 in
+    omega (arith, c .size-at .ensures .exact, cell-inside (e .args .l) (e .pre .0 .sane) (e .args .records .now) (p .replica) (p .holds) (size-at (e .args .l)) (omega arith))
 
 returns-3 : tie.Need-returns-3
 returns-3 c =
@@ -70,10 +72,10 @@ returns-3 c =
     let a = e .args in
     let x = c .before .before .before .before .get in
     let at = c .before .before .before .before .before .reader-at in
-    λ u h g. read-no-object (a .l) (e .pre .sane) (a .records .now) u h (a .reader) (search needs) (at .result) (at .ensures .exact) (x .result) (x .ensures) (search needs) (a .object) (omega (arith, objects (c .before) u h))
+    met-beside (a .l) (e .pre .0 .sane) (read (a .reader) (a .object)) (a .records .now) (e .pre .1 .bytes) _ _ (read-bodies (a .l) (a .reader) (a .object)) (λ u h g. read-no-object (a .l) (e .pre .0 .sane) (a .records .now) u h (a .reader) (search needs) (at .result) (at .ensures .exact) (x .result) (x .ensures) (search needs) (a .object) (omega (arith, objects (c .before) u h)))
 
 object-at-requires : tie.Need-object-at-requires
-object-at-requires c κs = (entry (c .before) .pre .sane, omega (arith, few (c .before)))
+object-at-requires c κs = (entry (c .before) .pre .0 .sane, omega (arith, few (c .before)))
 
 mul-first : tie.Need-mul-first
 mul-first c = search needs
@@ -82,7 +84,7 @@ add-object-at : tie.Need-add-object-at
 add-object-at c = search needs
 
 object-at-requires-2 : tie.Need-object-at-requires-2
-object-at-requires-2 c κs = (entry (c .before .before) .pre .sane, omega (arith, few (c .before .before)))
+object-at-requires-2 c κs = (entry (c .before .before) .pre .0 .sane, omega (arith, few (c .before .before)))
 
 mul-end : tie.Need-mul-end
 mul-end c = search needs
@@ -98,8 +100,8 @@ ends : (c : tie.After-object-at2) → c .object-at2 .result * 8 ≤ length (entr
 ends c =
     let g = c .before .before .before in
     let e = entry g in
-    let p = e .pre in
-    object-inside (e .args .l) (p .sane) (e .args .records .now) (p .replica) (p .holds) (e .args .object + 1) (c .object-at2 .result) (omega (arith, few g)) (c .object-at2 .ensures .exact)
+    let p = e .pre .1 in
+    object-inside (e .args .l) (e .pre .0 .sane) (e .args .records .now) (p .replica) (p .holds) (e .args .object + 1) (c .object-at2 .result) (omega (arith, few g)) (c .object-at2 .ensures .exact)
 
 part-lookup-end : tie.Need-part-lookup-end
 part-lookup-end c = omega (arith, ends c)
@@ -112,11 +114,11 @@ lookup-requires c κs =
     let g = c .before .before .before .before in
     let e = entry g in
     let a = e .args in
-    let p = e .pre in
+    let p = e .pre .1 in
     let f = c .before .before .object-at in
     let t = c .before .object-at2 in
     let w = block-span (a .l) (a .object) (f .result) (t .result) (f .ensures .exact) (t .ensures .exact) in
-    omega (arith, mid-len (f .result * 8) (t .result * 8) (a .records .now) (ends (c .before)), w, lent-count (e .args .l) (p .sane) (e .args .records .now) (p .replica) (p .holds) (a .object) (omega (arith, objects g (p .replica) (p .holds))) (f .result) _ (f .ensures .exact) w)
+    omega (arith, mid-len (f .result * 8) (t .result * 8) (a .records .now) (ends (c .before)), w, lent-count (e .args .l) (e .pre .0 .sane) (e .args .records .now) (p .replica) (p .holds) (a .object) (omega (arith, objects g (p .replica) (p .holds))) (f .result) _ (f .ensures .exact) w)
 
 returns-4 : tie.Need-returns-4
 returns-4 c =
@@ -127,7 +129,7 @@ returns-4 c =
     let at = g .before .before .before .before .reader-at in
     let f = c .before .before .before .object-at in
     let t = c .before .before .object-at2 in
-    λ u h k. read-done (a .l) (e .pre .sane) (a .records .now) u h (a .reader) (search needs) (at .result) (at .ensures .exact) (x .result) (x .ensures) (search needs) (a .object) (omega (arith, objects g u h)) (f .result) _ (f .ensures .exact) (block-span (a .l) (a .object) (f .result) (t .result) (f .ensures .exact) (t .ensures .exact)) _ (told (c .lookup .ok) (c .lookup .ensures))
+    met-beside (a .l) (e .pre .0 .sane) (read (a .reader) (a .object)) (a .records .now) (e .pre .1 .bytes) _ _ (read-bodies (a .l) (a .reader) (a .object)) (λ u h k. read-done (a .l) (e .pre .0 .sane) (a .records .now) u h (a .reader) (search needs) (at .result) (at .ensures .exact) (x .result) (x .ensures) (search needs) (a .object) (omega (arith, objects g u h)) (f .result) _ (f .ensures .exact) (block-span (a .l) (a .object) (f .result) (t .result) (f .ensures .exact) (t .ensures .exact)) _ (told (c .lookup .ok) (c .lookup .ensures)))
 
 pub read-spec : {M : Type 1} → statement M
 read-spec =

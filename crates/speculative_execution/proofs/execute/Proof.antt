@@ -7,64 +7,73 @@ use lib.Seq.{length-take-le}
 use borrow.Author.Needs.{needs}
 use denote.Ref.{now}
 use Rattle.cells.specs.Cells.{Below}
-use Rattle.model.specs.Calls.{Answer, mostWork}
+use Rattle.model.specs.Calls.{Answer, most-work}
 use Rattle.layout.specs.Layout.{Areas}
-use Rattle.speculation.specs.Answer.{too-many, readable, begun, small-counts, answered}
+use Rattle.layout.specs.Contract.{met-by}
+use Rattle.speculative_execution.specs.Answer.{Asked, too-many, readable, begun, small-counts, answered}
 use Rattle.speculative_execution.proofs.execute.Statement.{statement}
 use Rattle.speculative_execution.proofs.execute.Tie as tie
 
-bytes : (v : tie.After-committed-values) → Below 256 (now (v .before .before .before .before .before .before .args .area))
+-- ---- where the proof stands: at the entry, after the values are gathered, after the turns
+
+abbrev start : tie.After-committed-values → tie.Start
+start v = v .before .before .before .before .before .before
+
+abbrev gathered : tie.After-execute-pending → tie.After-committed-values
+gathered x = x .before .before .before
+
+asked : (s : tie.Start) → Asked (s .args .l) (now (s .args .records)) (now (s .args .bodies))
+asked s = let p = s .pre .0 in record { sane = p .sane; objects = p .objects; few = p .operations; fit = s .pre .1 }
+
+bytes : (v : tie.After-committed-values) → Below 256 (now (start v .args .records))
 bytes v i = v .before .before .before .before .before .slice-known .given i .fits
 
-low : (v : tie.After-committed-values) → v .before .before .before .before .before .before .args .count ≤ mostWork
-unfolding mostWork
+low : (v : tie.After-committed-values) → start v .args .count ≤ most-work
+unfolding most-work
 low v = v .before .before .before .if1 .left
 
 -- the number of objects is within the local array
 fits : (v : tie.After-committed-values) → v .committed-values .result ≤ length (v .committed-values .last .1 .1 .0)
 fits v =
-    let s = v .before .before .before .before .before .before in
-    let a = s .args in
-    let r = readable (a .l) (now (a .area)) (now (a .bodies)) (s .pre) (bytes v) in
+    let r = readable (asked (start v)) (bytes v) in
     let e = v .committed-values .ensures in
     omega (arith, e .size, e .room, r .few, r .room)
 
 -- both counts fit in 32 bits
 small : (x : tie.After-execute-pending) → (x .execute-pending .result .operations ≤ 4096) × (x .execute-pending .result .finished ≤ 65536)
 small x =
-    let v = x .before .before .before in
-    let s = v .before .before .before .before .before .before in
-    let a = s .args in
-    let k = small-counts (a .l) (now (a .area)) (now (a .bodies)) (s .pre) (bytes v) (a .count) (low v) (x .execute-pending .last .0) (x .execute-pending .result .operations) (x .execute-pending .result .finished) (x .execute-pending .ensures) in
+    let v = gathered x in
+    let k = small-counts (asked (start v)) (bytes v) (start v .args .count) (low v) (x .execute-pending .ensures) in
     let l = v .before .before .before .if1 .left in
     (omega arith, k .1)
 
+-- ---- the needs
+
 returns : tie.Need-returns
-unfolding mostWork
+unfolding most-work
 returns c =
     let s = c .before .before .before in
     let a = s .args in
-    let e = too-many (a .l) (now (a .area)) (now (a .bodies)) (a .count) (s .pre .fit) (c .if1 .taken) in
-    (sym (ap (λ (x : Answer × Areas). x .0) e), sym (ap (λ (x : Answer × Areas). x .1) e))
+    let e = too-many (a .l) (now (a .records)) (now (a .bodies)) (a .count) (s .pre .1) (c .if1 .taken) in
+    record { answers = sym (ap (λ (x : Answer × Areas). x .0) e); areas = sym (ap (λ (x : Answer × Areas). x .1) e) }
 
 committed-values-requires : tie.Need-committed-values-requires
 committed-values-requires c κs =
     let s = c .before .before .before .before .before in
-    let a = s .args in
-    (s .pre .sane, readable (a .l) (now (a .area)) (now (a .bodies)) (s .pre) (λ i. c .before .before .before .before .slice-known .given i .fits), refl)
+    (s .pre .0 .sane, readable (asked s) (λ i. c .before .before .before .before .slice-known .given i .fits), refl)
 
 array-borrow-prefix-table : tie.Need-array-borrow-prefix-table
 array-borrow-prefix-table c = fits (c .before)
 
 slice-aggregate-execute-pending : tie.Need-slice-aggregate-execute-pending
-slice-aggregate-execute-pending c = let v = c .before .before in sym (length-take-le (v .committed-values .result) (v .committed-values .last .1 .1 .0) (fits v))
+slice-aggregate-execute-pending c =
+    let v = c .before .before in
+    sym (length-take-le (v .committed-values .result) (v .committed-values .last .1 .1 .0) (fits v))
 
 execute-pending-requires : tie.Need-execute-pending-requires
 execute-pending-requires c κs =
     let v = c .before .before in
-    let s = v .before .before .before .before .before .before in
-    let a = s .args in
-    begun (a .l) (now (a .area)) (now (a .bodies)) (s .pre) (bytes v) (v .committed-values .result) (v .committed-values .last .1 .1 .0) (v .committed-values .ensures) (a .count) (low v)
+    begun (asked (start v)) (bytes v) (v .committed-values .ensures) (start v .args .count) (low v)
 
 cast-t17 : tie.Need-cast-t17
 cast-t17 c = let k = small (c .before .before .before .before) .0 in omega arith
@@ -78,10 +87,8 @@ same-length c = search needs
 returns-2 : tie.Need-returns-2
 returns-2 c =
     let x = c .before .before .before .before .before in
-    let v = x .before .before .before in
-    let s = v .before .before .before .before .before .before in
-    let a = s .args in
-    answered (a .l) (now (a .area)) (now (a .bodies)) (s .pre) (bytes v) (a .count) (low v) (x .execute-pending .last .0) (x .execute-pending .result .operations) (x .execute-pending .result .finished) (x .execute-pending .ensures)
+    let v = gathered x in
+    met-by (answered (asked (start v)) (bytes v) (start v .args .count) (low v) (x .execute-pending .ensures))
 
 pub execute-spec : {M : Type 1} → statement M
 execute-spec =

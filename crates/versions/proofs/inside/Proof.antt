@@ -2,7 +2,7 @@
 use mathlib.Core.Path.{refl}
 use lib.Dec.{leb}
 use borrow.Author.Needs.{needs}
-use Rattle.versions.specs.Steps.{inside-yes, inside-no}
+use Rattle.versions.specs.BlockLoops.{inside-yes, inside-no}
 use Rattle.versions.proofs.inside.Statement.{statement}
 use Rattle.versions.proofs.inside.Tie as tie
 

@@ -1,12 +1,12 @@
 -- `versions::lookup` meets its contract. Invariant: the answer is that of the versions left, from cell k on. The measure is their number.
 use mathlib.Core.Path.{_≡_, _∙_, sym}
-use Prim.Native.Nat.{_+_, _*_, _≤_}
+use Prim.Native.Nat.{_+_, _*_}
 use lib.ListN.{getD, drop}
 use borrow.Author.Needs.{needs}
 use Rattle.cells.specs.Signed.{told}
 use Rattle.cells.specs.Cells.{cells}
 use Rattle.model.specs.Replica.{as-of}
-use Rattle.versions.specs.Steps.{look-start, look-here, look-on, look-end}
+use Rattle.versions.specs.BlockLoops.{look-start, look-here, look-on, look-end}
 use Rattle.versions.specs.Block.{versions-in, held-in}
 use Rattle.versions.proofs.lookup.Statement.{statement}
 use Rattle.versions.proofs.lookup.Tie as tie

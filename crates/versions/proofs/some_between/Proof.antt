@@ -4,7 +4,7 @@ use Prim.Native.Nat.{_≤_, _-_}
 use lib.ListN.{drop}
 use borrow.Author.Needs.{needs}
 use Rattle.cells.specs.Cells.{cells}
-use Rattle.versions.specs.Steps.{between-hit, between-miss, between-end}
+use Rattle.versions.specs.BlockLoops.{between-hit, between-miss, between-end}
 use Rattle.versions.specs.Block.{between}
 use Rattle.versions.proofs.some_between.Statement.{statement}
 use Rattle.versions.proofs.some_between.Tie as tie

@@ -1,7 +1,8 @@
--- `console::arguments::values` is safe and ends. The loop's invariant: the values fit the buffer, which keeps its length.
--- The measure is the room left. Assumes nothing.
+-- `console::arguments::values` is safe and ends. The loop's invariant: no more values than bytes are passed, and the buffer keeps its length.
+-- The measure is what is left of the line. Assumes nothing.
 use Prim.Native.Nat.{_≤_, _-_}
-use mathlib.Core.Path.{_≡_, refl, _∙_}
+use mathlib.Core.Path.{_≡_, refl, ap, _∙_}
+use mathlib.Core.Logic.{⊎-elim}
 use native.Mathlib.Omega.{arith}
 use lib.ListN.{length, length-set}
 use borrow.Author.Needs.{needs}
@@ -9,10 +10,10 @@ use Rattle.console.proofs.arguments.values.Statement.{statement}
 use Rattle.console.proofs.arguments.values.Tie as tie
 
 abbrev Inv-loop : tie.InvT-loop
-Inv-loop line at out₀ next₀ count₀ out next count = (count ≤ length out) × (length out ≡ length out₀)
+Inv-loop line at out₀ next₀ count₀ out next count = (count ≤ next) × (length out ≡ length out₀)
 
 abbrev μ-loop : tie.MeasureT-loop
-μ-loop line at out₀ next₀ count₀ out next count = length out - count
+μ-loop line at out₀ next₀ count₀ out next count = length line - next
 
 loop-holds : tie.Need-loop-holds Inv-loop μ-loop
 loop-holds c = (omega arith, refl)
@@ -63,25 +64,22 @@ add-count : tie.Need-add-count Inv-loop μ-loop
 add-count c = search needs
 
 loop-less : tie.Need-loop-less Inv-loop μ-loop
-loop-less c = simp length-set (omega arith)
+loop-less c =
+    let at-next = c .before .before .before .before .before .before .before in
+    omega (arith, at-next .next .ensures .forward (omega arith))
 
 loop-again : tie.Need-loop-again Inv-loop μ-loop
-loop-again c = let l = c .before .before .before .before .before .before .before .before .loop in (simp length-set (omega arith), length-set (l .out) (l .count) _ ∙ l .inv .1)
-
-ended-requires : tie.Need-ended-requires Inv-loop μ-loop
-ended-requires c κs = search needs
+loop-again c =
+    let at-next = c .before .before .before .before .before .before .before in
+    let l = at-next .before .before .loop in
+    let same : length (c .if2 .out) ≡ length (l .out) = ⊎-elim (λ w. ap length (w .1) ∙ length-set (l .out) (l .count) _) (λ w. ap length (w .1)) (c .if2 .came) in
+    (omega (arith, at-next .next .ensures .forward (omega arith)), same ∙ l .inv .1)
 
 same-length-3 : tie.Need-same-length-3 Inv-loop μ-loop
 same-length-3 c = search needs
 
 returns-3 : tie.Need-returns-3 Inv-loop μ-loop
 returns-3 c = search needs
-
-same-length-4 : tie.Need-same-length-4 Inv-loop μ-loop
-same-length-4 c = search needs
-
-returns-4 : tie.Need-returns-4 Inv-loop μ-loop
-returns-4 c = search needs
 
 pub values-spec : {M : Type 1} → statement M
 values-spec =
@@ -107,8 +105,5 @@ values-spec =
     add-count
     loop-less
     loop-again
-    ended-requires
     same-length-3
-    returns-3
-    same-length-4
-    returns-4)
+    returns-3)

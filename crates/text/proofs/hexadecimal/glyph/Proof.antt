@@ -1,7 +1,7 @@
 -- `text::hexadecimal::glyph` meets its contract. Assumes nothing.
 use borrow.Author.Needs.{needs}
 use borrow.Author.Tests.{lt-ltb, le-ltb}
-use Rattle.text.specs.Hexadecimal.{glyphOf}
+use Rattle.text.specs.Hexadecimal.{glyph-of}
 use Rattle.text.proofs.hexadecimal.glyph.Statement.{statement}
 use Rattle.text.proofs.hexadecimal.glyph.Tie as tie
 
@@ -12,11 +12,11 @@ add-result-2 : tie.Need-add-result-2
 add-result-2 c = search needs
 
 returns : tie.Need-returns
-unfolding glyphOf
+unfolding glyph-of
 returns c = rw (lt-ltb _ _ (c .if1 .taken))
 
 returns-2 : tie.Need-returns-2
-unfolding glyphOf
+unfolding glyph-of
 returns-2 c = rw (le-ltb _ _ (c .if1 .left))
 
 pub glyph-spec : {M : Type 1} → statement M

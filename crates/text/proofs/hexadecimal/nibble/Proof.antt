@@ -1,7 +1,7 @@
 -- `text::hexadecimal::nibble` meets its contract: each answer is that of the first range that holds the byte. Assumes nothing.
 use borrow.Author.Needs.{needs}
 use borrow.Author.Tests.{lt-ltb, le-ltb, le-leb, lt-leb}
-use Rattle.text.specs.Hexadecimal.{nibbleOf}
+use Rattle.text.specs.Hexadecimal.{nibble-of}
 use Rattle.text.proofs.hexadecimal.nibble.Statement.{statement}
 use Rattle.text.proofs.hexadecimal.nibble.Tie as tie
 
@@ -12,31 +12,31 @@ add-result-2 : tie.Need-add-result-2
 add-result-2 c = search needs
 
 returns : tie.Need-returns
-unfolding nibbleOf
+unfolding nibble-of
 returns c = rw (lt-ltb _ _ (c .if1 .taken))
 
 returns-2 : tie.Need-returns-2
-unfolding nibbleOf
+unfolding nibble-of
 returns-2 c = rw (le-ltb _ _ (c .before .if1 .left), le-leb _ _ (c .if2 .taken))
 
 returns-3 : tie.Need-returns-3
-unfolding nibbleOf
+unfolding nibble-of
 returns-3 c = rw (le-ltb _ _ (c .before .before .if1 .left), lt-leb _ _ (c .before .if2 .left), lt-ltb _ _ (c .if3 .taken))
 
 returns-4 : tie.Need-returns-4
-unfolding nibbleOf
+unfolding nibble-of
 returns-4 c = rw (le-ltb _ _ (c .before .before .before .if1 .left), lt-leb _ _ (c .before .before .if2 .left), le-ltb _ _ (c .before .if3 .left), le-leb _ _ (c .if4 .taken))
 
 returns-5 : tie.Need-returns-5
-unfolding nibbleOf
+unfolding nibble-of
 returns-5 c = rw (le-ltb _ _ (c .before .before .before .before .if1 .left), lt-leb _ _ (c .before .before .before .if2 .left), le-ltb _ _ (c .before .before .if3 .left), lt-leb _ _ (c .before .if4 .left), lt-ltb _ _ (c .if5 .taken))
 
 returns-6 : tie.Need-returns-6
-unfolding nibbleOf
+unfolding nibble-of
 returns-6 c = rw (le-ltb _ _ (c .before .before .before .before .before .if1 .left), lt-leb _ _ (c .before .before .before .before .if2 .left), le-ltb _ _ (c .before .before .before .if3 .left), lt-leb _ _ (c .before .before .if4 .left), le-ltb _ _ (c .before .if5 .left), le-leb _ _ (c .if6 .taken))
 
 returns-7 : tie.Need-returns-7
-unfolding nibbleOf
+unfolding nibble-of
 returns-7 c = rw (le-ltb _ _ (c .before .before .before .before .before .if1 .left), lt-leb _ _ (c .before .before .before .before .if2 .left), le-ltb _ _ (c .before .before .before .if3 .left), lt-leb _ _ (c .before .before .if4 .left), le-ltb _ _ (c .before .if5 .left), lt-leb _ _ (c .if6 .left))
 
 pub nibble-spec : {M : Type 1} → statement M

@@ -2,7 +2,7 @@
 use mathlib.Core.Path.{refl}
 use denote.Ref.{now}
 use borrow.Author.Needs.{needs}
-use Rattle.text.specs.Numbers.{hasMinus}
+use Rattle.text.specs.Numbers.{has-minus}
 use Rattle.text.specs.NumberLaws.{minus-none}
 use Rattle.text.proofs.numbers.has_minus.Statement.{statement}
 use Rattle.text.proofs.numbers.has_minus.Tie as tie
@@ -11,7 +11,7 @@ shared-slice-read-result : tie.Need-shared-slice-read-result
 shared-slice-read-result c = search needs
 
 returns : tie.Need-returns
-unfolding hasMinus
+unfolding has-minus
 returns c = refl
 
 returns-2 : tie.Need-returns-2

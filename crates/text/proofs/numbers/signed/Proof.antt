@@ -11,7 +11,7 @@ use denote.Ref.{now}
 use borrow.Author.Needs.{needs}
 use Rattle.cells.specs.Signed.{told}
 use Rattle.text.specs.declared.numbers.Integer.the-variants.{Value}
-use Rattle.text.specs.Numbers.{integerOf, negativeOf, signedOf}
+use Rattle.text.specs.Numbers.{integer-of, negative-of, signed-of}
 use Rattle.text.specs.NumberLaws.{at-most, minus-some}
 use Rattle.text.proofs.numbers.signed.Statement.{statement}
 use Rattle.text.proofs.numbers.signed.Tie as tie
@@ -32,11 +32,11 @@ negative-requires : tie.Need-negative-requires
 negative-requires c κs = search needs
 
 returns : tie.Need-returns
-unfolding signedOf
+unfolding signed-of
 returns c =
     let w = now (c .before .before .before .before .before .args .word) in
     rw (sym (c .before .before .before .has-minus .ensures) ∙ c .before .before .if1 .taken)
-    (c .negative .ensures ∙ ap negativeOf (take-all (length w - 1) (drop 1 w) (simp length-drop (omega arith))))
+    (c .negative .ensures ∙ ap negative-of (take-all (length w - 1) (drop 1 w) (simp length-drop (omega arith))))
 
 unsigned-requires : tie.Need-unsigned-requires
 unsigned-requires c κs = search needs
@@ -51,18 +51,18 @@ enum-told : tie.Need-enum-told
 enum-told c = search needs
 
 returns-2 : tie.Need-returns-2
-unfolding signedOf
+unfolding signed-of
 returns-2 c =
     let w = now (c .before .before .before .before .before .before .before .before .args .word) in
     let e = sym (c .before .before .n .given .1) ∙ c .before .before .before .before .unsigned .ensures in
     rw (sym (c .before .before .before .before .before .before .has-minus .ensures) ∙ c .before .before .before .before .before .if1 .left)
-    (ap Value (told (c .signed .ok) (c .signed .ensures ∙ toZ-pos w64 _ (omega (arith, at-most 9223372036854775807 _ w e)))) ∙ ap (integerOf pos) e)
+    (ap Value (told (c .signed .ok) (c .signed .ensures ∙ toZ-pos w64 _ (omega (arith, at-most 9223372036854775807 _ w e)))) ∙ ap (integer-of pos) e)
 
 returns-3 : tie.Need-returns-3
-unfolding signedOf
+unfolding signed-of
 returns-3 c =
     rw (sym (c .before .before .before .before .has-minus .ensures) ∙ c .before .before .before .if1 .left)
-    (ap (integerOf pos) (sym (c .enum-told .given .1) ∙ c .before .before .unsigned .ensures))
+    (ap (integer-of pos) (sym (c .enum-told .given .1) ∙ c .before .before .unsigned .ensures))
 
 pub signed-spec : {M : Type 1} → statement M
 signed-spec =

@@ -5,13 +5,13 @@ use mathlib.Core.Path.{_≡_, _∙_}
 use native.Mathlib.Omega.{arith}
 use lib.ListN.{length, drop}
 use denote.Ref.{now}
-use Rattle.text.specs.Numbers.{readOn, unsignedOf}
+use Rattle.text.specs.Numbers.{read-on, unsigned-of}
 use Rattle.text.specs.NumberLaws.{begins, nothing, stops, exceeds, goes-on, ends}
 use Rattle.text.proofs.numbers.unsigned.Statement.{statement}
 use Rattle.text.proofs.numbers.unsigned.Tie as tie
 
 abbrev Inv-loop : tie.InvT-loop
-Inv-loop word most n₀ i₀ n i = (i ≤ length word) × (n ≤ most) × (readOn most n (drop i word) ≡ unsignedOf most word)
+Inv-loop word most n₀ i₀ n i = (i ≤ length word) × (n ≤ most) × (read-on most n (drop i word) ≡ unsigned-of most word)
 
 abbrev μ-loop : tie.MeasureT-loop
 μ-loop word most n₀ i₀ n i = length word - i

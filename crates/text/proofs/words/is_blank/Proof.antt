@@ -1,15 +1,15 @@
 -- `text::words::is_blank` meets its contract. Assumes nothing.
 use borrow.Author.Tests.{eq-eqb, ne-eqb}
-use Rattle.text.specs.Words.{isBlank}
+use Rattle.text.specs.LineWords.{is-blank}
 use Rattle.text.proofs.words.is_blank.Statement.{statement}
 use Rattle.text.proofs.words.is_blank.Tie as tie
 
 returns : tie.Need-returns
-unfolding isBlank
+unfolding is-blank
 returns c = rw (eq-eqb _ _ (c .if1 .taken))
 
 returns-2 : tie.Need-returns-2
-unfolding isBlank
+unfolding is-blank
 returns-2 c = rw (ne-eqb _ _ (c .if1 .left))
 
 pub is-blank-spec : {M : Type 1} → statement M

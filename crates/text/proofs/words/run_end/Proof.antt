@@ -5,7 +5,7 @@ use mathlib.Core.Path.{_≡_}
 use native.Mathlib.Omega.{arith}
 use lib.ListN.{length, drop}
 use denote.Ref.{now}
-use Rattle.text.specs.Words.{run}
+use Rattle.text.specs.LineWords.{run}
 use Rattle.text.specs.WordLaws.{stops, goes-on, ends}
 use Rattle.text.proofs.words.run_end.Statement.{statement}
 use Rattle.text.proofs.words.run_end.Tie as tie

@@ -1,0 +1,70 @@
+-- `console::output::put_reading` prints the numbers of the answer. Assumes nothing.
+use native.Mathlib.Omega.{arith}
+use mathlib.Core.Path.{_≡_}
+use mir.Syntax.{w64}
+use mir.Val.{toZ, ofZ}
+use mir.Facts.{toZ-ofZ}
+use Rattle.model.specs.Calls.{numbers}
+use Rattle.console.specs.Output.{as-signed}
+use borrow.Author.Needs.{needs}
+use Rattle.console.proofs.output.put_reading.Statement.{statement}
+use Rattle.console.proofs.output.put_reading.Tie as tie
+
+enum-known-r : tie.Need-enum-known-r
+enum-known-r c = search needs
+
+slice-aggregate-put-numbers : tie.Need-slice-aggregate-put-numbers
+slice-aggregate-put-numbers c = search needs
+
+put-numbers-requires : tie.Need-put-numbers-requires
+put-numbers-requires c κs = search needs
+
+enum-known-r-2 : tie.Need-enum-known-r-2
+enum-known-r-2 c = search needs
+
+cast-t14 : tie.Need-cast-t14
+cast-t14 c = search needs
+
+slice-aggregate-put-numbers-2 : tie.Need-slice-aggregate-put-numbers-2
+slice-aggregate-put-numbers-2 c = search needs
+
+put-numbers-requires-2 : tie.Need-put-numbers-requires-2
+put-numbers-requires-2 c κs = search needs
+
+same-length : tie.Need-same-length
+same-length c = search needs
+
+returns : tie.Need-returns
+unfolding numbers
+returns c =
+    let at-put = c .before .before in
+    let at-arm = at-put .before .before .before .before in
+    let v = at-arm .r .given .0 .0 in
+    let told : toZ w64 (ofZ w64 v) ≡ v = toZ-ofZ (record { sfits = at-put .before .before .before .known-told .given .0 .1 }) in
+    rw (at-arm .r .given .1) (rw told at (at-put .put-numbers .ensures))
+
+same-length-2 : tie.Need-same-length-2
+same-length-2 c = search needs
+
+returns-2 : tie.Need-returns-2
+unfolding numbers
+returns-2 c =
+    let at-put = c .before .before in
+    let at-arm = at-put .before .before .before .before in
+    rw (at-arm .r2 .given .1, as-signed (at-arm .r2 .given .0 .0) (omega arith)) (at-put .put-numbers2 .ensures)
+
+pub put-reading-spec : {M : Type 1} → statement M
+put-reading-spec =
+    tie.close
+    (tie.spec
+    enum-known-r
+    slice-aggregate-put-numbers
+    put-numbers-requires
+    enum-known-r-2
+    cast-t14
+    slice-aggregate-put-numbers-2
+    put-numbers-requires-2
+    same-length
+    returns
+    same-length-2
+    returns-2)

@@ -1,0 +1,31 @@
+-- `run`: fresh counts and registers are the start of a run, and 16 operations are enough for any body.
+use native.Mathlib.Omega.{arith}
+use denote.Ref.{now}
+use borrow.Author.Needs.{needs}
+use Rattle.operation.specs.Body.{register-count, listed, operations}
+use Rattle.operation.specs.BodyLaws.{formed, length-operations}
+use Rattle.execution.specs.Run.{table-of, object-count, start}
+use Rattle.execution.specs.Arrays.{capacity, entries}
+use Rattle.execution_interpreter.specs.Budget.{run-whole}
+use Rattle.execution_interpreter.proofs.run.Statement.{statement}
+use Rattle.execution_interpreter.proofs.run.Tie as tie
+
+execute-requires : tie.Need-execute-requires
+execute-requires c κs = search needs
+
+returns : tie.Need-returns
+unfolding start entries listed register-count
+returns c =
+    let s = c .before .before .before .before .before .before .before .before in
+    let b = now (s .args .body) in
+    let x = c .before .execute in
+    let g = x .last .1 .1 in
+    let e = x .ensures in
+    let m = formed capacity (object-count (now (s .args .table))) b (s .pre .0) .most in
+    let k = length-operations b in (
+      run-whole (table-of (now (s .args .table))) (operations b) (x .result .counts) (g .0) (g .1 .0) (g .1 .1 .0) (g .1 .1 .1 .0) (g .1 .1 .1 .1 .0) (omega arith) (e .0 .run),
+      e .1,
+    )
+
+pub run-spec : {M : Type 1} → statement M
+run-spec = tie.close (tie.spec execute-requires returns)

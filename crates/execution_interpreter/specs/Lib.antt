@@ -1,0 +1,3 @@
+-- Executes: what the contracts cite. Budget: the loop of a budgeted run.
+pub mod Executes
+pub mod Budget

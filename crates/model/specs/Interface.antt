@@ -1,0 +1,60 @@
+-- The calls by kind, with their arguments, and what they yield. Contracts and examples name them by the words of specs/Calls.antt. Assumes nothing.
+use mathlib.Core.Bool.{Bool}
+use mathlib.Core.List.{List}
+use Prim.Native.Nat.{ℕ}
+use lib.IntN.{ℤ}
+
+-- ---- the calls
+
+-- what a replica is opened with
+pub data Opening : Type 0 where
+  by-values : ℕ → List ℤ → ℕ → Opening  -- n, start values, start timestamp
+
+-- a call that may change the replica
+pub data Update : Type 0 where
+  optimistic : ℕ → ℕ → List ℕ → Update  -- early delivery: client, sequence number, body
+  execute : ℕ → Update  -- work: the most operations
+  final : ℕ → ℕ → Update  -- client, sequence number
+  open-reader : ℕ → Update
+  close-reader : ℕ → Update
+
+-- a call that answers and changes nothing
+pub data Query : Type 0 where
+  read : ℕ → ℕ → Query  -- reader, object
+  find : ℕ → ℕ → Query  -- client, sequence number
+  show-body : ℕ → ℕ → Query  -- client, sequence number
+
+pub data Call : Type 0 where
+  opening : Opening → Call
+  update : Update → Call
+  query : Query → Call
+
+-- ---- the answers
+
+-- what a final delivery yields
+pub record Committed : Type 0 where
+  pub outcome : ℕ
+  pub validated : Bool  -- "kept", else "run again"
+  pub timestamp : ℕ  -- the new commit timestamp
+  pub stored : ℕ  -- how many objects were stored
+
+-- what Read yields of the version that its reader sees
+pub record ReadVersion : Type 0 where
+  pub value : ℤ
+
+-- what a query yields
+pub data Observation : Type 0 where
+  value : ReadVersion → Observation
+  found : ℕ → ℕ → Observation  -- optimistic position, length of the body
+  body : List ℕ → Observation
+
+-- what an accepted call yields
+pub data Yield : Type 0 where
+  done : Yield
+  executed : ℕ → ℕ → Yield  -- operations carried out, pending transactions now finished
+  committed : Committed → Yield
+  observed : Observation → Yield
+
+pub data Answer : Type 0 where
+  refused : ℕ → Answer
+  yielded : Yield → Answer

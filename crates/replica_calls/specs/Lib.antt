@@ -1,0 +1,2 @@
+pub mod OpeningAnswers
+pub mod UnfitShown

@@ -1,0 +1,210 @@
+// The shape check of one row with the place of its body (document 01, "Shape check"): key, body, and the run's counter, outcome, read set and
+// write set. It looks at the part lent to it and knows nothing of the areas' layout.
+ghost use mathlib.Core.Path.{_≡_};
+ghost use mathlib.Core.Bool.{_||_};
+ghost use Prim.Native.Nat.{_+_, _*_, _^_, _≤_, _<_};
+ghost use lib.Dec.{eqb};
+ghost use lib.ListN.{length, drop};
+ghost use Rattle.cells.specs.Cells.{cells};
+ghost use Rattle.operation.specs.Columns.{most-operations};
+ghost use Rattle.layout.specs.Rows.{chunks};
+ghost use Rattle.shape_row.specs.RowScan.{absent as absent-in, names-in, key-in, body-in, sets-in, run-in, row-in, cells-of, place-of};
+ghost use Rattle.shape_row.specs.LentRow.{Row};
+
+// Does none of the first count blocks, of width cells each, begin with key? Block by block, up to the first that does.
+pub fn absent(area: &[u8], width: usize, count: usize, key: u64) -> bool
+    requires { ⌜ (0 < width) × (count * width * 8 ≤ length (now area)) ⌝ }
+    ensures { λ r. ⌜ r ≡ absent-in key (chunks width count (cells (now (area .entry)))) ⌝ }
+{
+    let mut at = 0;
+    let mut left = count;
+    while 0 < left {
+        if cells::get(area, at) == key {
+            return false;
+        }
+        at += width;
+        left -= 1;
+    }
+    true
+}
+
+// Two entries from a cell on: do they name different objects, below n? Here and for three and four all is tested, without a branch.
+fn two_names(entries: &[u8], at: usize, n: u64) -> bool
+    requires { ⌜ (at + 4) * 8 ≤ length (now entries) ⌝ }
+    ensures { λ r. ⌜ r ≡ names-in n 2 (drop at (cells (now (entries .entry)))) ⌝ }
+{
+    let a = cells::get(entries, at);
+    let b = cells::get(entries, at + 2);
+    (a < n) & ((b != a) & (b < n))
+}
+
+// Three entries: the first, and the others without it.
+fn three_names(entries: &[u8], at: usize, n: u64) -> bool
+    requires { ⌜ (at + 6) * 8 ≤ length (now entries) ⌝ }
+    ensures { λ r. ⌜ r ≡ names-in n 3 (drop at (cells (now (entries .entry)))) ⌝ }
+{
+    let a = cells::get(entries, at);
+    let b = cells::get(entries, at + 2);
+    let c = cells::get(entries, at + 4);
+    let others = two_names(entries, at + 2, n);
+    (a < n) & (((b != a) & (c != a)) & others)
+}
+
+// Four entries: the first, and the others without it.
+fn four_names(entries: &[u8], at: usize, n: u64) -> bool
+    requires { ⌜ (at + 8) * 8 ≤ length (now entries) ⌝ }
+    ensures { λ r. ⌜ r ≡ names-in n 4 (drop at (cells (now (entries .entry)))) ⌝ }
+{
+    let a = cells::get(entries, at);
+    let b = cells::get(entries, at + 2);
+    let c = cells::get(entries, at + 4);
+    let d = cells::get(entries, at + 6);
+    let others = three_names(entries, at + 2, n);
+    (a < n) & (((b != a) & ((c != a) & (d != a))) & others)
+}
+
+// Do the first count entries name different objects, below n? Each is looked for among those behind it.
+fn many_names(entries: &[u8], count: usize, n: u64) -> bool
+    requires { ⌜ count * 16 ≤ length (now entries) ⌝ }
+    ensures { λ r. ⌜ r ≡ names-in n count (cells (now (entries .entry))) ⌝ }
+{
+    let mut at = 0;
+    let mut left = count;
+    while 0 < left {
+        let object = cells::get(entries, at);
+        if n <= object {
+            return false;
+        }
+        at += 2;
+        left -= 1;
+        let from = at * 8;
+        if absent(&entries[from..], 2, left, object) {
+            continue;
+        }
+        return false;
+    }
+    true
+}
+
+// Do the first count entries name different objects, below n? Up to four, as most rows have, without a loop.
+fn names_ok(entries: &[u8], count: usize, n: u64) -> bool
+    requires { ⌜ count * 16 ≤ length (now entries) ⌝ }
+    ensures { λ r. ⌜ r ≡ names-in n count (cells (now (entries .entry))) ⌝ }
+{
+    if count == 1 {
+        return cells::get(entries, 0) < n;
+    }
+    if count == 2 {
+        return two_names(entries, 0, n);
+    }
+    if count == 3 {
+        return three_names(entries, 0, n);
+    }
+    if count == 4 {
+        return four_names(entries, 0, n);
+    }
+    many_names(entries, count, n)
+}
+
+// Is a key one of a client's, and unspent, its sequence number being above the client's last?
+fn key_ok(lasts: &[u8], key: u64) -> bool
+    requires { ⌜ length (now lasts) ≡ 128 ⌝ }
+    ensures { λ r. ⌜ r ≡ key-in (cells (now (lasts .entry))) key ⌝ }
+{
+    let client = (key / layout::SEQUENCES) as usize;
+    if model::CLIENTS as usize <= client {
+        return false;
+    }
+    cells::get(lasts, client) < key % layout::SEQUENCES
+}
+
+// Is there a well-formed body at the front of its place, over n objects, and zeros behind it? The body's first byte says where it ends.
+fn body_ok(place: &[u8], most: usize, n: usize) -> bool
+    requires { ⌜ (length (now place) ≡ place-of most) × (most ≤ most-operations) ⌝ }
+    ensures { λ r. ⌜ r ≡ body-in most n (now (place .entry)) ⌝ }
+{
+    let m = operation::small(place[0]);
+    let end = operation::body_length(m);
+    if place.len() < end {
+        return false;
+    }
+    let operation::Decoded::WellFormed(_) = operation_decoder::decode(&place[..end], most, n) else {
+        return false;
+    };
+    operation_decoder::units_zero(place, end, most - m)
+}
+
+// The cells of a row whose body has at most so many operations, each of which reads or writes one object at most.
+pub fn row_cells(most: usize) -> usize
+    requires { ⌜ most < 2 ^ 60 ⌝ }
+    ensures { λ r. ⌜ r ≡ cells-of most ⌝ }
+{
+    layout::ROW_FIRST_ENTRY + layout::ENTRY_WIDTH * most
+}
+
+// The entries of a row: so many reads, then writes, so many of both, and zeros behind them.
+fn sets_ok(row: &[u8], most: usize, n: u64, reads: usize, both: usize) -> bool
+    requires { ⌜ (length (now row) ≡ cells-of most * 8) × (reads ≤ both) × (both ≤ most) ⌝ }
+    ensures { λ r. ⌜ r ≡ sets-in n reads both (cells (now (row .entry))) ⌝ }
+{
+    let first = layout::ROW_FIRST_ENTRY * 8;
+    let writes = (layout::ROW_FIRST_ENTRY + reads * layout::ENTRY_WIDTH) * 8;
+    let end = layout::ROW_FIRST_ENTRY + both * layout::ENTRY_WIDTH;
+    if names_ok(&row[first..], reads, n) {
+        if names_ok(&row[writes..], both - reads, n) {
+            return cells::cells_zero(row, end, row_cells(most));
+        }
+    }
+    false
+}
+
+// Are there no writes, unless the outcome is 0? A transaction that stopped has none.
+fn stopped_ok(outcome: u64, reads: usize, both: usize) -> bool
+    ensures { λ r. ⌜ r ≡ (eqb outcome 0 || eqb reads both) ⌝ }
+{
+    if outcome == 0 { true } else { reads == both }
+}
+
+// A row's run, of a body of m operations: at its start all zeros, else counter, outcome, read set and write set within their limits. An operation
+// reads or writes one object at most, so that there are no more entries than operations before the counter.
+fn run_ok(row: &[u8], most: usize, n: u64, m: usize) -> bool
+    requires { ⌜ (length (now row) ≡ cells-of most * 8) × (m ≤ most) ⌝ }
+    ensures { λ r. ⌜ r ≡ run-in n m (cells (now (row .entry))) ⌝ }
+{
+    let counter = cells::get(row, layout::ROW_COUNTER) as usize;
+    if counter == 0 {
+        return cells::cells_zero(row, layout::ROW_OUTCOME, row_cells(most));
+    }
+    let outcome = cells::get(row, layout::ROW_OUTCOME);
+    let reads = cells::get(row, layout::ROW_READS) as usize;
+    let both = cells::get(row, layout::ROW_ENTRIES) as usize;
+    if m < counter {
+        return false;
+    }
+    if 2 < outcome {
+        return false;
+    }
+    if counter < both {
+        return false;
+    }
+    if both < reads {
+        return false;
+    }
+    if stopped_ok(outcome, reads, both) {
+        return sets_ok(row, most, n, reads, both);
+    }
+    false
+}
+
+// One row with the place of its body: its key, its body, and then its run, which is judged by the body's length.
+pub fn row_ok(row: &[u8], place: &[u8], lasts: &[u8], most: usize, n: usize) -> bool
+    requires { ⌜ Row most (now row) (now place) (now lasts) ⌝ }
+    ensures { λ r. ⌜ r ≡ row-in most n (cells (now (lasts .entry))) (cells (now (row .entry))) (now (place .entry)) ⌝ }
+{
+    if key_ok(lasts, cells::get(row, layout::ROW_KEY)) {
+        if body_ok(place, most, n) {
+            return run_ok(row, most, n as u64, operation::small(place[0]));
+        }
+    }
+    false
+}

@@ -1,0 +1,2 @@
+-- Lowest: the smallest open reader's cell.
+pub mod Lowest

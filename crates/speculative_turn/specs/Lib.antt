@@ -1,0 +1,2 @@
+-- Advance: one transaction's turn.
+pub mod Advance

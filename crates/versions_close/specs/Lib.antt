@@ -1,0 +1,8 @@
+-- Closing: definitions. Beside: the readers beside the one that closes. Seen: which version it saw. Dropped: a block without one version.
+-- Close: one object. Walk: all of them.
+pub mod Closing
+pub mod Beside
+pub mod Seen
+pub mod Dropped
+pub mod Close
+pub mod ObjectLoop

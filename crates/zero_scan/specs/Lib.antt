@@ -1,0 +1,2 @@
+-- Totals: zeros by sums, and a turn of each scan.
+pub mod Totals

@@ -1,0 +1,249 @@
+//! The ten cases of "A small depot" and each refusal.
+
+use jobstore::{Body, Committed, Executed, Found, Outcome, Refusal, Replica, BODIES_LENGTH, RECORD_LENGTH};
+
+fn add_5() -> Body {
+    Body::new().load(0, 0).set(1, 5).add(0, 1).store(0, 0)
+}
+
+/// Objects 10, 20, 30, and A, B and C in early order.
+fn depot() -> Result<Replica, Refusal> {
+    let mut replica = Replica::opened(&[10, 20, 30], 0)?;
+    replica.deliver_early((1, 1), add_5())?;
+    replica.deliver_early((2, 1), Body::new().load(0, 1).store(0, 2))?;
+    replica.deliver_early((3, 1), Body::new().load(0, 0).store(0, 1))?;
+    Ok(replica)
+}
+
+fn worked() -> Result<Replica, Refusal> {
+    let mut replica = depot()?;
+    replica.work(100)?;
+    Ok(replica)
+}
+
+/// The committed table, by a reader that sees it.
+fn table(replica: &Replica, n: u32) -> Result<Vec<i64>, Refusal> {
+    let mut copy = replica.copy();
+    copy.open_reader(6)?;
+    (0..n).map(|object| Ok(copy.read(6, object)?.value)).collect()
+}
+
+fn executed(yielded: Executed) -> (u32, u32) {
+    (yielded.operations, yielded.finished)
+}
+
+fn committed(yielded: Committed) -> (Outcome, bool, u32, u32) {
+    (yielded.outcome, yielded.kept, yielded.stamp, yielded.stored)
+}
+
+/// The refusal of a call, which changes no byte.
+fn refused<T>(replica: &mut Replica, call: impl FnOnce(&mut Replica) -> Result<T, Refusal>) -> Option<Refusal> {
+    let before = replica.clone();
+    let refusal = call(replica).err();
+    assert!(before == *replica, "a refusal changed a byte");
+    refusal
+}
+
+#[test]
+fn case_1_work_carries_out_8_operations() -> Result<(), Refusal> {
+    let mut replica = depot()?;
+    assert_eq!(executed(replica.work(100)?), (8, 3));
+    assert_eq!(executed(replica.work(100)?), (0, 3));
+    Ok(())
+}
+
+#[test]
+fn case_2_all_kept_in_early_order() -> Result<(), Refusal> {
+    let mut replica = worked()?;
+    for client in [1, 2, 3] {
+        assert_eq!(committed(replica.deliver_final((client, 1))?), (Outcome::Done, true, client, 1));
+    }
+    assert_eq!(table(&replica, 3)?, [15, 15, 20]);
+    Ok(())
+}
+
+#[test]
+fn case_3_final_c_a_b_with_no_work_between() -> Result<(), Refusal> {
+    let mut replica = worked()?;
+    assert_eq!(committed(replica.deliver_final((3, 1))?), (Outcome::Done, false, 1, 1));
+    assert_eq!(committed(replica.deliver_final((1, 1))?), (Outcome::Done, true, 2, 1));
+    assert_eq!(committed(replica.deliver_final((2, 1))?), (Outcome::Done, false, 3, 1));
+    assert_eq!(table(&replica, 3)?, [15, 10, 10]);
+    Ok(())
+}
+
+#[test]
+fn case_4_final_b_first_is_kept() -> Result<(), Refusal> {
+    let mut replica = worked()?;
+    assert_eq!(committed(replica.deliver_final((2, 1))?), (Outcome::Done, true, 1, 1));
+    assert_eq!(executed(replica.work(0)?), (0, 2));
+    Ok(())
+}
+
+#[test]
+fn case_5_a_reader_sees_the_table_of_its_opening() -> Result<(), Refusal> {
+    let mut replica = worked()?;
+    replica.open_reader(0)?;
+    replica.deliver_final((1, 1))?;
+    assert_eq!(replica.read(0, 0)?.value, 10);
+    replica.open_reader(1)?;
+    assert_eq!(replica.read(1, 0)?.value, 15);
+    replica.close_reader(0)?;
+    assert_eq!(replica.read(1, 0)?.value, 15);
+    Ok(())
+}
+
+#[test]
+fn case_6_divide_rounds_a_half_away_from_zero() -> Result<(), Refusal> {
+    for (value, quotient) in [(7, 4), (-7, -4), (5, 3)] {
+        let mut replica = Replica::opened(&[value], 0)?;
+        replica.deliver_early((1, 1), Body::new().load(0, 0).divide(0, 2).store(0, 0))?;
+        assert_eq!(committed(replica.deliver_final((1, 1))?), (Outcome::Done, false, 1, 1));
+        assert_eq!(table(&replica, 1)?, [quotient]);
+    }
+    Ok(())
+}
+
+#[test]
+fn case_7_an_overflow_stores_nothing_and_takes_a_stamp() -> Result<(), Refusal> {
+    let mut replica = Replica::opened(&[i64::MAX], 0)?;
+    replica.deliver_early((1, 1), Body::new().load(0, 0).set(1, 1).add(0, 1).store(0, 0))?;
+    assert_eq!(committed(replica.deliver_final((1, 1))?), (Outcome::Overflow, false, 1, 0));
+    assert_eq!(table(&replica, 1)?, [i64::MAX]);
+    Ok(())
+}
+
+#[test]
+fn case_8_lower_keys_of_the_client_leave() -> Result<(), Refusal> {
+    let mut replica = Replica::opened(&[10], 0)?;
+    replica.deliver_early((1, 1), add_5())?;
+    replica.deliver_early((1, 2), add_5())?;
+    assert_eq!(committed(replica.deliver_final((1, 2))?), (Outcome::Done, false, 1, 1));
+    assert_eq!(replica.find((1, 1)), Err(Refusal::NotPending));
+    assert_eq!(refused(&mut replica, |r| r.deliver_final((1, 1))), Some(Refusal::Spent));
+    Ok(())
+}
+
+#[test]
+fn case_9_limits() -> Result<(), Refusal> {
+    let mut replica = Replica::opened(&[10], 0)?;
+    for sequence in 1..=32 {
+        replica.deliver_early((1, sequence), add_5())?;
+    }
+    assert_eq!(refused(&mut replica, |r| r.deliver_early((1, 33), add_5())), Some(Refusal::Full));
+    assert_eq!(executed(replica.work(4096)?), (128, 32));
+    assert_eq!(refused(&mut replica, |r| r.work(4097)), Some(Refusal::Count));
+    assert_eq!(refused(&mut replica, |r| r.open(&[1; 129], 0)), Some(Refusal::Objects));
+    replica.open(&[1; 128], 0)
+}
+
+#[test]
+fn case_10_skips_at_the_end() -> Result<(), Refusal> {
+    let mut replica = Replica::opened(&[10], 0)?;
+    let past_the_last = Body::new().load(0, 0).skip_if_negative(0, 1);
+    assert_eq!(refused(&mut replica, |r| r.deliver_early((1, 1), past_the_last)), Some(Refusal::Body));
+    replica.deliver_early((1, 1), Body::new().skip_if_negative(0, 1).load(0, 0))
+}
+
+#[test]
+fn a_fail_stores_nothing_and_takes_a_stamp() -> Result<(), Refusal> {
+    let mut replica = Replica::opened(&[10], 0)?;
+    replica.deliver_early((1, 1), Body::new().store(0, 0).fail())?;
+    assert_eq!(executed(replica.work(4096)?), (2, 1));
+    assert_eq!(committed(replica.deliver_final((1, 1))?), (Outcome::Fail, true, 1, 0));
+    assert_eq!(table(&replica, 1)?, [10]);
+    Ok(())
+}
+
+#[test]
+fn find_and_show_body() -> Result<(), Refusal> {
+    let replica = depot()?;
+    let Found { place, length, .. } = replica.find((3, 1))?;
+    assert_eq!((place, length), (2, 23));
+    let shown = replica.show_body((3, 1)).unwrap();
+    assert_eq!(shown, Body::new().load(0, 0).store(0, 1).as_bytes());
+    assert_eq!(shown.as_ptr(), replica.bodies()[2 * 177..].as_ptr());
+    assert_eq!(replica.show_body((4, 1)), None);
+    Ok(())
+}
+
+/// Areas of the caller's, all calls; and lent to read, those that change nothing.
+#[test]
+fn areas_owned_and_lent() -> Result<(), Refusal> {
+    let (mut record, mut bodies) = depot()?.into_areas();
+    let mut lent = Replica::over(&mut record[..], &mut bodies[..]);
+    assert_eq!(executed(lent.work(100)?), (8, 3));
+    lent.open_reader(0)?;
+    let shared = Replica::over(&record[..], &bodies[..]);
+    assert_eq!((shared.read(0, 1)?.value, shared.find((2, 1))?.place), (20, 1));
+    assert_eq!(shared.show_body((2, 1)).map(<[u8]>::len), Some(23));
+    let owned = shared.copy();
+    assert_eq!((owned.record(), owned.bodies()), (&record[..], &bodies[..]));
+    Ok(())
+}
+
+/// Refusal 1 of every call: a record byte too few, and a damaged one.
+#[test]
+fn refused_areas() -> Result<(), Refusal> {
+    let (mut record, bodies) = depot()?.into_areas();
+    record.pop();
+    let mut short = Replica::over(record, bodies);
+    let mut damaged = depot()?;
+    damaged.areas_mut().0[200] = 9;
+    for replica in [&mut short, &mut damaged] {
+        assert_eq!(refused(replica, |r| r.deliver_early((1, 2), add_5())), Some(Refusal::Area));
+        assert_eq!(refused(replica, |r| r.work(1)), Some(Refusal::Area));
+        assert_eq!(refused(replica, |r| r.deliver_final((1, 1))), Some(Refusal::Area));
+        assert_eq!(refused(replica, |r| r.open_reader(0)), Some(Refusal::Area));
+        assert_eq!(refused(replica, |r| r.close_reader(0)), Some(Refusal::Area));
+        assert_eq!(replica.read(0, 0), Err(Refusal::Area));
+        assert_eq!(replica.find((1, 1)), Err(Refusal::Area));
+        assert_eq!(replica.show_body((1, 1)), None);
+    }
+    assert_eq!(refused(&mut short, |r| r.open(&[1], 0)), Some(Refusal::Area));
+    let mut no_bodies = Replica::over(vec![0; RECORD_LENGTH], Vec::new());
+    assert_eq!(refused(&mut no_bodies, |r| r.open(&[1], 0)), Some(Refusal::Area));
+    damaged.open(&[1], 0)
+}
+
+#[test]
+fn refused_openings_and_deliveries() -> Result<(), Refusal> {
+    let mut replica = depot()?;
+    assert_eq!(refused(&mut replica, |r| r.open(&[], 0)), Some(Refusal::Objects));
+    assert_eq!(refused(&mut replica, |r| r.deliver_early((16, 1), add_5())), Some(Refusal::Client));
+    assert_eq!(refused(&mut replica, |r| r.deliver_early((4, 0), add_5())), Some(Refusal::Spent));
+    assert_eq!(refused(&mut replica, |r| r.deliver_early((1, 1), add_5())), Some(Refusal::Pending));
+    assert_eq!(refused(&mut replica, |r| r.deliver_early((4, 1), Body::new().load(0, 3))), Some(Refusal::Body));
+    assert_eq!(refused(&mut replica, |r| r.deliver_early((4, 1), [])), Some(Refusal::Body));
+    assert_eq!(refused(&mut replica, |r| r.deliver_final((16, 1))), Some(Refusal::Client));
+    assert_eq!(refused(&mut replica, |r| r.deliver_final((1, 0))), Some(Refusal::Spent));
+    assert_eq!(refused(&mut replica, |r| r.deliver_final((1, 2))), Some(Refusal::NotPending));
+    let mut last = Replica::opened(&[10], u32::MAX)?;
+    last.deliver_early((1, 1), add_5())?;
+    assert_eq!(refused(&mut last, |r| r.deliver_final((1, 1))), Some(Refusal::LastStamp));
+    Ok(())
+}
+
+#[test]
+fn refused_readers_and_finds() -> Result<(), Refusal> {
+    let mut replica = depot()?;
+    replica.open_reader(0)?;
+    assert_eq!(refused(&mut replica, |r| r.open_reader(7)), Some(Refusal::Reader));
+    assert_eq!(refused(&mut replica, |r| r.open_reader(0)), Some(Refusal::ReaderOpen));
+    assert_eq!(refused(&mut replica, |r| r.close_reader(7)), Some(Refusal::Reader));
+    assert_eq!(refused(&mut replica, |r| r.close_reader(1)), Some(Refusal::ReaderClosed));
+    assert_eq!(replica.read(7, 0), Err(Refusal::Reader));
+    assert_eq!(replica.read(1, 0), Err(Refusal::ReaderClosed));
+    assert_eq!(replica.read(0, 3), Err(Refusal::Object));
+    assert_eq!(replica.find((16, 1)), Err(Refusal::Client));
+    assert_eq!(replica.find((4, 1)), Err(Refusal::NotPending));
+    assert_eq!((replica.show_body((16, 1)), replica.show_body((4, 1))), (None, None));
+    Ok(())
+}
+
+#[test]
+fn lengths_as_the_library_has_them() {
+    // SAFETY: neither takes an argument.
+    let lengths = unsafe { (jobstore::raw::jobstore_record_length(), jobstore::raw::jobstore_bodies_length()) };
+    assert_eq!(lengths, (RECORD_LENGTH as u32, BODIES_LENGTH as u32));
+}
