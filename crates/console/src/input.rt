@@ -30,13 +30,13 @@ pub fn more(buffer: &mut [u8], input: Input) -> Input
     ensures { λ r. ⌜ Within r (length (now (buffer .exit))) ⌝ }
 {
     let from = input.from;
-    let kept = input.end - from;
-    cells::move_down(buffer, 0, from, kept);
-    let got = libc::read(STDIN_FILENO, &mut buffer[kept..]);
-    let n = io::count(got, &buffer[kept..]);
+    let unread = input.end - from;
+    cells::move_down(buffer, 0, from, unread);
+    let got = libc::read(STDIN_FILENO, &mut buffer[unread..]);
+    let n = io::count(got, &buffer[unread..]);
     Input {
         from: 0,
-        end: kept + n,
+        end: unread + n,
         ended: n == 0,
     }
 }

@@ -21,8 +21,8 @@ nth-entry os vs i = entry (getD os i 0) (getD vs i (pos 0))
 unfoldable pub entries : ℕ → List ℕ → List ℤ → List Entry
 entries n os vs = listed (nth-entry os vs) n
 
-abbrev pub run-held : Counts → List ℤ → List ℕ → List ℤ → List ℕ → List ℤ → Run
-run-held c registers ro rv wo wv =
+abbrev pub run-of-arrays : Counts → List ℤ → List ℕ → List ℤ → List ℕ → List ℤ → Run
+run-of-arrays c registers ro rv wo wv =
     record { counter = c .counter; outcome = c .outcome; registers = registers; reads = entries (c .reads) ro rv; writes = entries (c .writes) wo wv }
 
 -- both arrays of a set have all their places (a reference to an array does not tell its length)
@@ -34,12 +34,12 @@ pub room-set : (os : List ℕ) (vs : List ℤ) (i o : ℕ) (v : ℤ) → Room os
 room-set os vs i o v room = record { objects = length-set os i o ∙ room .objects; values = length-set vs i v ∙ room .values }
 
 -- neither set is longer than the counter
-pub record Kept (c : Counts) : Type 0 where
+pub record Bounded (c : Counts) : Type 0 where
   pub reads : c .reads ≤ c .counter
   pub writes : c .writes ≤ c .counter
 
 -- a run that can go on in these arrays
 pub record Lent (c : Counts) (ro : List ℕ) (rv : List ℤ) (wo : List ℕ) (wv : List ℤ) : Type 0 where
-  pub kept : Kept c
+  pub bounded : Bounded c
   pub read-room : Room ro rv
   pub write-room : Room wo wv

@@ -13,15 +13,15 @@ use Rattle.operation.specs.Body.{listed}
 use Rattle.execution.specs.declared.Counts.{Counts}
 use Rattle.execution.specs.Run.{Table, Stop, overflowed, outcome-of, get, put, go, halt, sum, apply}
 use Rattle.execution.specs.RunShape.{update-absent}
-use Rattle.execution.specs.Arrays.{capacity, entries, run-held, Room, Kept}
+use Rattle.execution.specs.Arrays.{capacity, entries, run-of-arrays, Room, Bounded}
 use Rattle.execution_effects.specs.Effects.{Found, advanced, stopped, settled}
 use Rattle.execution_effects.specs.SetPlaces.{lookup-absent, lookup-found, update-found, append-last}
 
-pub kept-advanced : (k : ℕ) (c t : Counts) → t ≡ advanced k c → Kept c → Kept t
-kept-advanced k c t e h = rw e (record { reads = omega (arith, h .reads); writes = omega (arith, h .writes) })
+pub bounded-advanced : (k : ℕ) (c t : Counts) → t ≡ advanced k c → Bounded c → Bounded t
+bounded-advanced k c t e h = rw e (record { reads = omega (arith, h .reads); writes = omega (arith, h .writes) })
 
-pub kept-stopped : (k : ℕ) (c t : Counts) → t ≡ stopped k c → Kept c → Kept t
-kept-stopped k c t e h = rw e (record { reads = omega (arith, h .reads); writes = omega arith })
+pub bounded-stopped : (k : ℕ) (c t : Counts) → t ≡ stopped k c → Bounded c → Bounded t
+bounded-stopped k c t e h = rw e (record { reads = omega (arith, h .reads); writes = omega arith })
 
 -- a checked sum, settled
 pub settled-sum : (g : List ℤ) (r : ℕ) (z : ℤ) → settled g r (bounded z) ≡ sum g r z
@@ -34,11 +34,11 @@ settled-sum g r z = by (fits z)
 
 module _ (T : Table) (c : Counts) (registers : List ℤ) (ro : List ℕ) (rv : List ℤ) (wo : List ℕ) (wv : List ℤ) where
   -- new registers, and k operations passed over
-  pub went : (k : ℕ) (t : Counts) (g : List ℤ) → t ≡ advanced k c → run-held t g ro rv wo wv ≡ apply T (go g k) (run-held c registers ro rv wo wv)
+  pub went : (k : ℕ) (t : Counts) (g : List ℤ) → t ≡ advanced k c → run-of-arrays t g ro rv wo wv ≡ apply T (go g k) (run-of-arrays c registers ro rv wo wv)
   went k t g e = rw (e, add-one (c .counter + k))
 
   -- an early stop
-  pub halted : (s : Stop) (t : Counts) → t ≡ stopped (outcome-of s) c → run-held t registers ro rv wo wv ≡ apply T (halt s) (run-held c registers ro rv wo wv)
+  pub halted : (s : Stop) (t : Counts) → t ≡ stopped (outcome-of s) c → run-of-arrays t registers ro rv wo wv ≡ apply T (halt s) (run-of-arrays c registers ro rv wo wv)
   unfolding entries listed
   halted s t e = rw (e, add-one (c .counter))
 
@@ -47,33 +47,33 @@ module _ (T : Table) (c : Counts) (registers : List ℤ) (ro : List ℕ) (rv : L
 
   module _ (r o j : ℕ) (w : Found wo (c .writes) o j) where
     -- the own store
-    pub load-own : (t : Counts) (g : List ℤ) → j < c .writes → t ≡ advanced 0 c → g ≡ set registers r (getD wv j (pos 0)) → run-held t g ro rv wo wv ≡ apply T (get r o) (run-held c registers ro rv wo wv)
+    pub load-own : (t : Counts) (g : List ℤ) → j < c .writes → t ≡ advanced 0 c → g ≡ set registers r (getD wv j (pos 0)) → run-of-arrays t g ro rv wo wv ≡ apply T (get r o) (run-of-arrays c registers ro rv wo wv)
     load-own t g h e f = rw (e, f, one-on, lookup-found wo wv (c .writes) o j w h)
 
     module _ (a : c .writes ≤ j) (k : ℕ) (v : Found ro (c .reads) o k) where
       -- the value read before
-      pub load-read : (t : Counts) (g : List ℤ) → k < c .reads → t ≡ advanced 0 c → g ≡ set registers r (getD rv k (pos 0)) → run-held t g ro rv wo wv ≡ apply T (get r o) (run-held c registers ro rv wo wv)
+      pub load-read : (t : Counts) (g : List ℤ) → k < c .reads → t ≡ advanced 0 c → g ≡ set registers r (getD rv k (pos 0)) → run-of-arrays t g ro rv wo wv ≡ apply T (get r o) (run-of-arrays c registers ro rv wo wv)
       load-read t g h e f =
           rw (e, f, one-on, lookup-absent wo wv (c .writes) o j w a, lookup-found ro rv (c .reads) o k v h)
 
       -- the table's, recorded
       pub load-new :
           c .reads ≤ k → c .reads < capacity → Room ro rv
-          → run-held (record { counter = c .counter + 1; outcome = 0; reads = c .reads + 1; writes = c .writes }) (set registers r (T .look o)) (set ro (c .reads) o) (set rv (c .reads) (T .look o)) wo wv
-          ≡ apply T (get r o) (run-held c registers ro rv wo wv)
+          → run-of-arrays (record { counter = c .counter + 1; outcome = 0; reads = c .reads + 1; writes = c .writes }) (set registers r (T .look o)) (set ro (c .reads) o) (set rv (c .reads) (T .look o)) wo wv
+          ≡ apply T (get r o) (run-of-arrays c registers ro rv wo wv)
       load-new h l room =
           rw
           (add-one (c .counter), add-one (c .reads), lookup-absent wo wv (c .writes) o j w a, lookup-absent ro rv (c .reads) o k v h, append-last ro rv (c .reads) o (T .look o) room l)
 
   module _ (o j : ℕ) (v : ℤ) (w : Found wo (c .writes) o j) (l : c .writes < capacity) (room : Room wo wv) where
     -- in its place
-    pub store-again : (t : Counts) → j < c .writes → t ≡ advanced 0 c → run-held t registers ro rv (set wo j o) (set wv j v) ≡ apply T (put o v) (run-held c registers ro rv wo wv)
+    pub store-again : (t : Counts) → j < c .writes → t ≡ advanced 0 c → run-of-arrays t registers ro rv (set wo j o) (set wv j v) ≡ apply T (put o v) (run-of-arrays c registers ro rv wo wv)
     store-again t h e = rw (e, one-on, update-found wo wv (c .writes) o j w v room h (omega arith))
 
     -- at the end
     pub store-new :
         c .writes ≤ j
-        → run-held (record { counter = c .counter + 1; outcome = 0; reads = c .reads; writes = c .writes + 1 }) registers ro rv (set wo j o) (set wv j v) ≡ apply T (put o v) (run-held c registers ro rv wo wv)
+        → run-of-arrays (record { counter = c .counter + 1; outcome = 0; reads = c .reads; writes = c .writes + 1 }) registers ro rv (set wo j o) (set wv j v) ≡ apply T (put o v) (run-of-arrays c registers ro rv wo wv)
     store-new h =
         let e : j ≡ c .writes = (let z = w .within in omega arith) in
         rw

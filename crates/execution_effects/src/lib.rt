@@ -8,7 +8,7 @@ ghost use Prim.Native.Nat.{ℕ, _≤_, _<_};
 ghost use lib.IntN.{ℤ};
 ghost use lib.ListN.{set};
 ghost use Rattle.execution.specs.Run.{Table, table-of, object-count, apply, get as get-move, put as put-move, register};
-ghost use Rattle.execution.specs.Arrays.{capacity, run-held, Room, Kept};
+ghost use Rattle.execution.specs.Arrays.{capacity, run-of-arrays, Room, Bounded};
 ghost use Rattle.execution_effects.specs.Effects.{advanced, stopped, settled, Found};
 
 // Past one operation and `passed` more.
@@ -49,10 +49,10 @@ pub fn assign(registers: &mut [i64; 4], c: Counts, r: usize, v: i64) -> Counts
 
 // A checked sum or difference goes into its register, or the run stops.
 pub fn settle(registers: &mut [i64; 4], c: Counts, r: usize, x: Checked) -> Counts
-    requires { ⌜ Kept c × (c .counter < capacity) × (r < 4) ⌝ }
-    ensures run { λ t. ⌜ ((T : Table) (ro wo : List ℕ) (rv wv : List ℤ) → run-held t (now (registers .exit)) ro rv wo wv
-        ≡ apply T (settled (now (registers .entry)) r x) (run-held c (now (registers .entry)) ro rv wo wv)) ⌝ }
-    ensures kept { λ t. ⌜ Kept t ⌝ }
+    requires { ⌜ Bounded c × (c .counter < capacity) × (r < 4) ⌝ }
+    ensures run { λ t. ⌜ ((T : Table) (ro wo : List ℕ) (rv wv : List ℤ) → run-of-arrays t (now (registers .exit)) ro rv wo wv
+        ≡ apply T (settled (now (registers .entry)) r x) (run-of-arrays c (now (registers .entry)) ro rv wo wv)) ⌝ }
+    ensures bounded { λ t. ⌜ Bounded t ⌝ }
 {
     match x {
         Checked::Value(v) => assign(registers, c, r, v),
@@ -87,11 +87,11 @@ pub fn load<'a>(
     r: usize,
     o: usize,
 ) -> Counts
-    requires { ⌜ Kept c × (c .counter < capacity) × (r < 4) × (o < object-count (now table)) × Room (now ro) (now rv) ⌝ }
-    ensures run { λ t. ⌜ run-held t (now (registers .exit)) (now (ro .exit)) (now (rv .exit)) (now (wo .entry)) (now (wv .entry))
+    requires { ⌜ Bounded c × (c .counter < capacity) × (r < 4) × (o < object-count (now table)) × Room (now ro) (now rv) ⌝ }
+    ensures run { λ t. ⌜ run-of-arrays t (now (registers .exit)) (now (ro .exit)) (now (rv .exit)) (now (wo .entry)) (now (wv .entry))
         ≡ apply (table-of (now (table .entry))) (get-move r o)
-        (run-held c (now (registers .entry)) (now (ro .entry)) (now (rv .entry)) (now (wo .entry)) (now (wv .entry))) ⌝ }
-    ensures kept { λ t. ⌜ Kept t ⌝ }
+        (run-of-arrays c (now (registers .entry)) (now (ro .entry)) (now (rv .entry)) (now (wo .entry)) (now (wv .entry))) ⌝ }
+    ensures bounded { λ t. ⌜ Bounded t ⌝ }
     ensures room { λ _. ⌜ Room (now (ro .exit)) (now (rv .exit)) ⌝ }
 {
     let writes = c.writes;
@@ -125,10 +125,10 @@ pub fn store(
     r: usize,
     o: usize,
 ) -> Counts
-    requires { ⌜ Kept c × (c .counter < capacity) × (r < 4) × Room (now wo) (now wv) ⌝ }
-    ensures run { λ t. ⌜ ((T : Table) (ro : List ℕ) (rv : List ℤ) → run-held t (now (registers .entry)) ro rv (now (wo .exit)) (now (wv .exit))
-        ≡ apply T (put-move o (register (now (registers .entry)) r)) (run-held c (now (registers .entry)) ro rv (now (wo .entry)) (now (wv .entry)))) ⌝ }
-    ensures kept { λ t. ⌜ Kept t ⌝ }
+    requires { ⌜ Bounded c × (c .counter < capacity) × (r < 4) × Room (now wo) (now wv) ⌝ }
+    ensures run { λ t. ⌜ ((T : Table) (ro : List ℕ) (rv : List ℤ) → run-of-arrays t (now (registers .entry)) ro rv (now (wo .exit)) (now (wv .exit))
+        ≡ apply T (put-move o (register (now (registers .entry)) r)) (run-of-arrays c (now (registers .entry)) ro rv (now (wo .entry)) (now (wv .entry)))) ⌝ }
+    ensures bounded { λ t. ⌜ Bounded t ⌝ }
     ensures room { λ _. ⌜ Room (now (wo .exit)) (now (wv .exit)) ⌝ }
 {
     let n = c.writes;

@@ -16,8 +16,8 @@ use Rattle.execution.specs.declared.Counts.{Counts}
 use Rattle.execution.specs.Run.{Table, Move, get, put, go, halt, move, Run, start, apply, due, is-none, ended, obey, step, steps, whole, counted}
 use Rattle.execution.specs.ReadAgreement.{stay, steps-step, ended-past, enough}
 use Rattle.execution.specs.RunShape.{stop-least}
-use Rattle.execution.specs.Arrays.{capacity, run-held, Lent}
-use Rattle.execution_interpreter.specs.Executes.{Executes, Held}
+use Rattle.execution.specs.Arrays.{capacity, run-of-arrays, Lent}
+use Rattle.execution_interpreter.specs.Executes.{Executes, InArrays}
 
 module _ (T : Table) (b : List Operation) (budget : ℕ) (s : Run) where
   -- `used` operations lead from s to p, and the rest of the budget leads where all of it leads
@@ -70,13 +70,13 @@ module _ (T : Table) (b : List Operation) (budget : ℕ) (s : Run) where
 pub lent-rewritten : {t : Counts} {ro : List ℕ} {rv : List ℤ} {wo : List ℕ} {wv : List ℤ} (k : ℕ) → Lent t ro rv wo wv
     → Lent (record { counter = t .counter; outcome = k; reads = t .reads; writes = t .writes }) ro rv wo wv
 lent-rewritten k h =
-    record { kept = record { reads = h .kept .reads; writes = h .kept .writes }; read-room = h .read-room; write-room = h .write-room }
+    record { bounded = record { reads = h .bounded .reads; writes = h .bounded .writes }; read-room = h .read-room; write-room = h .write-room }
 
 -- a run from its start with the most operations is the whole run
-pub run-whole : (T : Table) (b : List Operation) (t : Counts) (g : List ℤ) (ro : List ℕ) (rv : List ℤ) (wo : List ℕ) (wv : List ℤ) → length b ≤ capacity → run-held t g ro rv wo wv ≡ steps T b capacity start → Held (whole T b) t ro rv wo wv
+pub run-whole : (T : Table) (b : List Operation) (t : Counts) (g : List ℤ) (ro : List ℕ) (rv : List ℤ) (wo : List ℕ) (wv : List ℤ) → length b ≤ capacity → run-of-arrays t g ro rv wo wv ≡ steps T b capacity start → InArrays (whole T b) t ro rv wo wv
 run-whole T b t g ro rv wo wv h e =
     let f = e ∙ enough T b capacity h in
-    ap (λ (p : Run). run-held t (p .registers) ro rv wo wv) (sym f) ∙ f
+    ap (λ (p : Run). run-of-arrays t (p .registers) ro rv wo wv) (sym f) ∙ f
 
 pub apply-outcome : (T : Table) (m : Move) (p q : Run) → q ≡ apply T m p → q .outcome ≤ 2
 apply-outcome T m p q e = rw e (by m)

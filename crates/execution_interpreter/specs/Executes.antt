@@ -6,7 +6,7 @@ use lib.IntN.{ℤ}
 use Rattle.operation.specs.declared.Operation.{Operation}
 use Rattle.execution.specs.declared.Counts.{Counts}
 use Rattle.execution.specs.Run.{Table, Run, steps, counted}
-use Rattle.execution.specs.Arrays.{run-held}
+use Rattle.execution.specs.Arrays.{run-of-arrays}
 
 -- q is the run that at most `budget` operations make of p, and `used` of them were carried out
 pub record Executes (T : Table) (b : List Operation) (budget : ℕ) (p q : Run) (used : ℕ) : Type 0 where
@@ -14,5 +14,5 @@ pub record Executes (T : Table) (b : List Operation) (budget : ℕ) (p q : Run) 
   pub count : used ≡ counted T b budget p
 
 -- p stands in these counts and arrays, but for its registers
-abbrev pub Held : Run → Counts → List ℕ → List ℤ → List ℕ → List ℤ → Type 0
-Held p t ro rv wo wv = run-held t (p .registers) ro rv wo wv ≡ p
+abbrev pub InArrays : Run → Counts → List ℕ → List ℤ → List ℕ → List ℤ → Type 0
+InArrays p t ro rv wo wv = run-of-arrays t (p .registers) ro rv wo wv ≡ p

@@ -18,7 +18,7 @@ use Rattle.model.specs.Held.{commit-shape, few}
 use Rattle.model.specs.ShapeParts.{opens-few}
 use Rattle.layout.specs.Printable.{ValueFits, VersionFits, ObjectFits, fits-small}
 use Rattle.layout.specs.Lawful.{Word}
-use Rattle.versions.specs.Block.{stamps, held-in, block, block-ok}
+use Rattle.versions.specs.Block.{stamps, block-versions, block, block-ok}
 use Rattle.versions.specs.Round.{below-block, ok-block, parsed}
 
 -- the versions of an object after a commit that stored this value
@@ -30,7 +30,7 @@ pushed-fits n s t rs vs v m e w x h g =
 
 -- a lent block that holds these versions
 module _ (n : ℕ) (vs : List Version) (ys : List ℕ) (g : ObjectFits n vs) (small : n < 2 ^ 63) (e : ys ≡ uncells (block n vs)) where
-  pub lent-versions : held-in (cells ys) ≡ vs
+  pub lent-versions : block-versions (cells ys) ≡ vs
   lent-versions = parsed n vs ys (fits-small vs (g .1)) (omega (arith, g .0)) e
 
   pub lent-ok : (t : ℕ) (rc : List ℕ) → VersionsShape t (stamps rc) vs → block-ok n t rc (cells ys) ≡ true

@@ -37,7 +37,7 @@ use Rattle.layout.specs.Holds.{Holds, with-objects, holds-long}
 use Rattle.layout.specs.Reading.{object-part}
 use Rattle.layout.specs.Writing.{write-object}
 use Rattle.layout.specs.ObjectBlock.{readers-stamps}
-use Rattle.versions.specs.Block.{stamps, held-in, block, block-ok, Lent}
+use Rattle.versions.specs.Block.{stamps, block-versions, block, block-ok, Lent}
 use Rattle.versions.specs.Round.{length-block}
 use Rattle.final_commit.specs.InstalledVersions.{install-none, install-one, install-before, entries-none, entries-end, entry-new, entry-sound}
 use Rattle.final_commit.specs.CommittedBlock.{pushed-fits, lent-versions, lent-ok}
@@ -163,13 +163,13 @@ module _ {l : Limits} {b rs : List ℕ} {t n : ℕ} {os : List ℕ} {vs : List �
     push-ok = lent-ok (l .readers) old (midOf a m c) old-fits small lent (t - 1) (cells rs) (rw (earlier, opened) shape)
 
     -- the block came back as ys; the code's value went through its bits
-    written : (ys : List ℕ) → ys ≡ uncells (block (l .readers) (prune (stamps (cells rs)) (pushed t (held-in (cells (midOf a m c))) (some (toZ w64 (ofZ w64 v))))))
+    written : (ys : List ℕ) → ys ≡ uncells (block (l .readers) (prune (stamps (cells rs)) (pushed t (block-versions (cells (midOf a m c))) (some (toZ w64 (ofZ w64 v))))))
         → ys ≡ uncells (object l .enc (prune (opens (u .readers)) (pushed t old (some v))))
     written ys ey =
-        ey ∙ ap (λ (z : ℤ). uncells (block (l .readers) (prune (stamps (cells rs)) (pushed t (held-in (cells (midOf a m c))) (some z))))) (toZ-ofZ (is-sound .1))
+        ey ∙ ap (λ (z : ℤ). uncells (block (l .readers) (prune (stamps (cells rs)) (pushed t (block-versions (cells (midOf a m c))) (some z))))) (toZ-ofZ (is-sound .1))
         ∙ ap₂ (λ (q : List ℕ) (z : List Version). uncells (block (l .readers) (prune q (pushed t z (some v))))) opened (lent-versions (l .readers) old (midOf a m c) old-fits small lent)
 
-    pub install-step : (ys : List ℕ) → ys ≡ uncells (block (l .readers) (prune (stamps (cells rs)) (pushed t (held-in (cells (midOf a m c))) (some (toZ w64 (ofZ w64 v))))))
+    pub install-step : (ys : List ℕ) → ys ≡ uncells (block (l .readers) (prune (stamps (cells rs)) (pushed t (block-versions (cells (midOf a m c))) (some (toZ w64 (ofZ w64 v))))))
         → Holds l (putMid a m c ys) (installed t (entries (i + 1) os vs) u)
     install-step ys ey =
         let x : List Version = prune (opens (u .readers)) (pushed t old (some v)) in

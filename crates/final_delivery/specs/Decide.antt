@@ -21,7 +21,7 @@ use Rattle.execution.specs.Entries.{entry}
 use Rattle.execution.specs.Run.{Table, table-of, Run, is-none, due-at, whole, matches}
 use Rattle.execution.specs.Arrays.{capacity, entries}
 use Rattle.execution.specs.RunShape.{Shaped, every, sound}
-use Rattle.execution_interpreter.specs.Executes.{Held}
+use Rattle.execution_interpreter.specs.Executes.{InArrays}
 use Rattle.model.specs.declared.Limits.{Limits}
 use Rattle.model.specs.ListLaws.{All, all-in, all-implies}
 use Rattle.model.specs.Calls.{Transaction}
@@ -127,7 +127,7 @@ module _ {l : Limits} {b body : List ℕ} (s : Sane l) (m : Local l) (p : Rerunn
     pub values-formed : is-well-formed capacity (length (take n values)) body ≡ true
     values-formed = ap (λ (k : ℕ). is-well-formed capacity k body) (sym values-lent ∙ back .0) ∙ p .formed
 
-    pub values-ran : (t : Counts) (ro : List ℕ) (rv : List ℤ) (wo : List ℕ) (wv : List ℤ) → Held (whole (table-of (take n values)) (operations body)) t ro rv wo wv → Ran (table (p .replica .objects)) body t wo wv
+    pub values-ran : (t : Counts) (ro : List ℕ) (rv : List ℤ) (wo : List ℕ) (wv : List ℤ) → InArrays (whole (table-of (take n values)) (operations body)) t ro rv wo wv → Ran (table (p .replica .objects)) body t wo wv
     values-ran t ro rv wo wv h =
         let k = h ∙ ap (λ (T : Table). whole T (operations body)) (ap table-of (back .1) ∙ committed-table (p .replica)) in
         record { outcome = ap (λ (q : Run). q .outcome) k; writes = ap (λ (q : Run). q .writes) k }
@@ -266,9 +266,9 @@ module _ {l : Limits} {b c : List ℕ} {i : ℕ} {ps : List ℕ} (s : Sane l) (m
               ∙ ap₂ (λ (x : List ℕ) (k : Bool). is-none (due-at (operations x) (t .counter) (t .outcome)) && k) (lent-body ex en ew) agree
               ∙ ap₂ (λ (x y : ℕ). is-none (due-at (program j) x y) && matches T (j .run .reads)) (et .counter ∙ ap (λ (y : ℕ). getD (cells b) (y + counter-at) 0) ea ∙ row-counter l s b u (p .holds) i (p .there)) is-outcome
 
-          pub decided-kept : z ≡ true → {wo : List ℕ} {wv : List ℤ} → entries (t .writes) wo wv ≡ j .run .writes → Decided T j (decision-of t true) wo wv
+          pub decided-validated : z ≡ true → {wo : List ℕ} {wv : List ℤ} → entries (t .writes) wo wv ≡ j .run .writes → Decided T j (decision-of t true) wo wv
           unfolding result
-          decided-kept f h =
+          decided-validated f h =
               let v : validated T j ≡ true = sym told ∙ f in
               let r : result T j ≡ j .run = ap (λ (y : Bool). cond y (j .run) (whole T (program j))) v in
               record { validated = sym v; outcome = is-outcome ∙ ap (λ (q : Run). q .outcome) (sym r); writes = h ∙ ap (λ (q : Run). q .writes) (sym r) }

@@ -23,7 +23,7 @@ use Rattle.layout.specs.Offsets.{Sane, record-length}
 use Rattle.layout.specs.Fit.{fit, fit-holds, fit-bodies, fit-shape}
 use Rattle.layout.specs.Act.{act}
 use Rattle.layout.specs.Areas.{act-refused, act-accepted}
-use Rattle.layout.specs.Holds.{Holds, Held, holds-long, holds-print}
+use Rattle.layout.specs.Holds.{Holds, Holding, holds-long, holds-print}
 use Rattle.layout.specs.Reading.{get-timestamp}
 use Rattle.queue.specs.declared.Place.{Place}
 use Rattle.queue.specs.Place.{Located, Spent}
@@ -59,8 +59,8 @@ module _ {l : Limits} {a : Areas} (q : Shaped l a) where
   holds : Holds l (a .0) (parse l a)
   holds = fit-holds l (q .sane) a (q .bytes) (q .fits)
 
-  pub shaped-held : Held l (a .0)
-  shaped-held = record { replica = parse l a; holds = holds }
+  pub shaped-holding : Holding l (a .0)
+  shaped-holding = record { replica = parse l a; holds = holds }
 
   pub shaped-long : length (a .0) ≡ record-length l
   shaped-long = holds-long l (q .sane) (a .0) (parse l a) holds

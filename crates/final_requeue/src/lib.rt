@@ -86,31 +86,35 @@ fn close_up(
     requires { ⌜ Counted l (now records) (now bodies) count ⌝ }
     ensures { λ r. ⌜ Closes l (now (records .entry)) (now (bodies .entry)) client sequence count (now (records .exit)) (now (bodies .exit)) r ⌝ }
 {
-    let mut kept = 0;
+    let mut staying = 0;
     let mut i = 0;
     while i < count {
         let next = next_leaving(records, l, i, count, client, sequence);
         let n = next - i;
-        move_run(records, bodies, l, kept, i, n);
-        kept += n;
+        move_run(records, bodies, l, staying, i, n);
+        staying += n;
         i = next + 1;
     }
-    kept
+    staying
 }
 
-// Of count pending transactions only the first kept stay: the places behind them become 0.
-fn clear_from(records: &mut [u8], bodies: &mut [u8], l: Limits, kept: usize, count: usize)
+// Of count pending transactions only the first so many stay: the places behind them become 0.
+fn clear_from(records: &mut [u8], bodies: &mut [u8], l: Limits, staying: usize, count: usize)
     requires { ⌜ Sane l ⌝ }
-    requires { ⌜ Clearing l (now records) (now bodies) kept count ⌝ }
-    ensures { λ _. ⌜ Clears l kept count (now (records .entry)) (now (bodies .entry)) (now (records .exit)) (now (bodies .exit)) ⌝ }
+    requires { ⌜ Clearing l (now records) (now bodies) staying count ⌝ }
+    ensures { λ _. ⌜ Clears l staying count (now (records .entry)) (now (bodies .entry)) (now (records .exit)) (now (bodies .exit)) ⌝ }
 {
     cells::fill_zero(
         records,
-        layout::row_at(l, kept) * 8,
+        layout::row_at(l, staying) * 8,
         layout::row_at(l, count) * 8,
     );
-    cells::put(records, layout::pending_at(l), kept as u64);
-    cells::fill_zero(bodies, layout::body_at(l, kept), layout::body_at(l, count));
+    cells::put(records, layout::pending_at(l), staying as u64);
+    cells::fill_zero(
+        bodies,
+        layout::body_at(l, staying),
+        layout::body_at(l, count),
+    );
 }
 
 // The client's pending transactions with a number not above this one leave.
@@ -120,6 +124,6 @@ pub fn leave(records: &mut [u8], bodies: &mut [u8], l: Limits, client: u32, sequ
     ensures { λ _. ⌜ Left l client sequence (now (records .entry)) (now (bodies .entry)) (now (records .exit)) (now (bodies .exit)) ⌝ }
 {
     let count = cells::get(records, layout::pending_at(l)) as usize;
-    let kept = close_up(records, bodies, l, count, client, sequence);
-    clear_from(records, bodies, l, kept, count);
+    let staying = close_up(records, bodies, l, count, client, sequence);
+    clear_from(records, bodies, l, staying, count);
 }

@@ -11,7 +11,7 @@ use Rattle.cells.specs.Cells.{splice}
 use Rattle.model.specs.declared.Limits.{Limits}
 use Rattle.model.specs.Replica.{Pending, Replica, pending-of, restarted}
 use Rattle.layout.specs.Offsets.{Sane, row-width, row-at, record-length, counter-at}
-use Rattle.layout.specs.Holds.{Holds, Held, with-pending, holds-long}
+use Rattle.layout.specs.Holds.{Holds, Holding, with-pending, holds-long}
 use Rattle.layout.specs.WritingRows.{restart-row}
 use Rattle.layout.specs.Printable.{few-pending}
 
@@ -32,7 +32,7 @@ none-restarted (j ∷ js) (suc i) h = ap (j ∷_) (none-restarted js i (le-of-su
 
 -- the record area, b before, is d after it
 pub record Restarts (l : Limits) (from : ℕ) (b d : List ℕ) : Type 0 where
-  pub holds : (p : Held l b) → Holds l d (with-pending (restarted-from from (p .replica .pending)) (p .replica))
+  pub holds : (p : Holding l b) → Holds l d (with-pending (restarted-from from (p .replica .pending)) (p .replica))
 
 -- the area b now: of n transactions, those from i on are still to be sent back
 pub record Restarting (l : Limits) (b : List ℕ) (u : Replica) (from n i : ℕ) : Type 0 where
@@ -41,7 +41,7 @@ pub record Restarting (l : Limits) (b : List ℕ) (u : Replica) (from n i : ℕ)
   pub count : length queue ≡ n
   pub left : restarted-from i queue ≡ restarted-from from (u .pending)
 
-pub restart-start : {l : Limits} {b : List ℕ} {n : ℕ} (from : ℕ) (p : Held l b) → n ≡ length (p .replica .pending) → Restarting l b (p .replica) from n from
+pub restart-start : {l : Limits} {b : List ℕ} {n : ℕ} (from : ℕ) (p : Holding l b) → n ≡ length (p .replica .pending) → Restarting l b (p .replica) from n from
 restart-start from p e = record { queue = p .replica .pending; holds = p .holds; count = sym e; left = refl }
 
 module _ {l : Limits} {b : List ℕ} {u : Replica} {from n i : ℕ} (s : Sane l) (r : Restarting l b u from n i) where

@@ -20,7 +20,7 @@ use Rattle.model.specs.ShapeRuns.{AllShaped}
 use Rattle.model.specs.ListLaws.{All, all-in}
 use Rattle.layout.specs.Offsets.{Sane, row-at, record-length}
 use Rattle.layout.specs.Printable.{few-pending}
-use Rattle.layout.specs.Holds.{Holds, Held, with-pending, holds-long}
+use Rattle.layout.specs.Holds.{Holds, Holding, with-pending, holds-long}
 use Rattle.final_commit.specs.Positions.{at}
 use Rattle.final_walk.specs.Places.{table-in, Inside, Reaching, Placed, Same, over-same, matches-same, placed-inside, placed-table}
 use Rattle.final_walk.specs.Recorded.{reads-from, writes-from, Lying, LaidOver, row-lying, row-reads-from, row-writes-from}
@@ -152,9 +152,9 @@ module _ {l : Limits} {b ps : List ℕ} {qs : List ℕ} {n i : ℕ} (s : Sane l)
                   ∙ ap (λ (x : ℕ). take x js ++ model.walk (over (j .run .writes) (k .now)) (drop x js)) (sym (add-one i));
             }
 
-abbrev pub walking-held : {l : Limits} {b ps : List ℕ} → Walking l b ps → Held l b
-walking-held p = record { replica = p .replica; holds = p .holds }
+abbrev pub walking-holding : {l : Limits} {b ps : List ℕ} → Walking l b ps → Holding l b
+walking-holding p = record { replica = p .replica; holds = p .holds }
 
 pub walk-done : {l : Limits} {b ps : List ℕ} {r : ℕ} {d : List ℕ} → Stale l b ps r → Restarts l r b d → Walks l ps b d
 walk-done {l} {b} {ps} {r} {d} a c =
-    record { holds = λ p. subst (λ (x : List Pending). Holds l d (with-pending x (p .replica))) (sym (a .walked p)) (c .holds (walking-held p)) }
+    record { holds = λ p. subst (λ (x : List Pending). Holds l d (with-pending x (p .replica))) (sym (a .walked p)) (c .holds (walking-holding p)) }

@@ -7,7 +7,7 @@ ghost use lib.ListN.{length, getD};
 ghost use Rattle.cells.specs.Cells.{cells};
 ghost use Rattle.execution.specs.Run.{matches};
 ghost use Rattle.layout.specs.Offsets.{Sane, size-at};
-ghost use Rattle.layout.specs.Holds.{Held};
+ghost use Rattle.layout.specs.Holds.{Holding};
 ghost use Rattle.rows.specs.Committed.{Laid};
 ghost use Rattle.final_walk.specs.Places.{table-in, Placed, Reaching};
 ghost use Rattle.final_walk.specs.Recorded.{reads-from, writes-from, Lying, LaidOver};
@@ -94,7 +94,7 @@ fn first_stale(records: &[u8], l: Limits, places: &mut [usize; 128]) -> Optimist
 // The pending transactions from this position on go back to their start, one after another: all of a row but its key is 0.
 fn restart_from(records: &mut [u8], l: Limits, from: OptimisticPosition)
     requires { ⌜ Sane l ⌝ }
-    requires { ⌜ Held l (now records) ⌝ }
+    requires { ⌜ Holding l (now records) ⌝ }
     ensures { λ _. ⌜ Restarts l (from .0) (now (records .entry)) (now (records .exit)) ⌝ }
 {
     let pending = cells::get(records, layout::pending_at(l)) as usize;

@@ -22,7 +22,7 @@ unbegun c s =
       values = replicate capacity (pos 0);
     }
 
--- back to its start: only the key is kept
+-- back to its start: only the key stays
 abbrev pub restarted : PendingTransaction → PendingTransaction
 restarted t = unbegun (t .client) (t .sequence)
 

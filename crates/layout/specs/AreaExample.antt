@@ -18,7 +18,7 @@ use Rattle.model.specs.Replica.{Replica}
 use Rattle.model.specs.ShapeCheck.{versions-shaped, key-unspent, at-start, names-shaped, run-shaped, in-order, checked, run-encoded, encoded, shaped}
 use Rattle.model.specs.Computing.{computing}
 use Rattle.versions.specs.Block as versions
-use Rattle.versions.specs.Block.{versions-in, held-in, block, framed}
+use Rattle.versions.specs.Block.{versions-in, block-versions, block, framed}
 use Rattle.layout.specs.Rows.{flat, chunks, table, pad-to}
 use Rattle.layout.specs.Layout.{Areas, parse, print, lengths, laid}
 use Rattle.layout.specs.Offsets.{last-at, reader-at, size-at, object-at, pending-at, row-at, record-length, stamp-at, value-at, counter-at, outcome-at, register-at, reads-at, entries-at, entry-at, body-at, bodies-length}
@@ -52,7 +52,7 @@ shape-open = tt
 
 -- an object's block
 unfoldable block-open : Unit {0}
-unfolding versions-in held-in versions.flat block framed
+unfolding versions-in block-versions versions.flat block framed
 block-open = tt
 
 -- all that is computed here

@@ -73,7 +73,7 @@ module _ (l : Limits) (s : Sane l) (a : Areas) (x : Below 256 (a .0)) (f : fit l
 -- ---- a call that is lent the record area alone
 
 -- what it asks: the area passes the check beside some body area, and so holds a shaped replica
-pub record HeldInShape (l : Limits) (b : List ℕ) : Type 0 where
+pub record HoldsShaped (l : Limits) (b : List ℕ) : Type 0 where
   pub bytes : Below 256 b
   pub replica : Replica
   pub holds : Holds l b replica
@@ -89,8 +89,8 @@ pub record Answered (l : Limits) (c : Call) (u : Replica) (b : List ℕ) (a : An
   pub after : Holds l b (call l u c .1)
 
 module _ (l : Limits) (s : Sane l) (a : Areas) (x : Below 256 (a .0)) (f : fit l a ≡ true) where
-  pub held-in-shape : HeldInShape l (a .0)
-  held-in-shape = let q = passed l s a x f in record { bytes = x; replica = parse l a; holds = q .holds; shape = q .shape }
+  pub holds-shaped : HoldsShaped l (a .0)
+  holds-shaped = let q = passed l s a x f in record { bytes = x; replica = parse l a; holds = q .holds; shape = q .shape }
 
 -- a call that leaves the bodies alone, by what it does to each shaped replica that the area may hold
 pub met-beside : (l : Limits) → Sane l → (c : Call) (b : List ℕ) → Below 256 b → (b′ : List ℕ) (r : Answer) → ((u : Replica) → map body-of (call l u c .1 .pending) ≡ map body-of (u .pending))

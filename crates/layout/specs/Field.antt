@@ -50,7 +50,7 @@ pub record Field {A B : Type 0} (c : Codec A) (P : A → Type 0) (f : Codec B) (
   pub read : (a : A) → P a → midOf at (f .size) (c .enc a) ≡ f .enc (get a)
   pub write : (a : A) → P a → (b : B) → Q b → putMid at (f .size) (c .enc a) (f .enc b) ≡ c .enc (put b a)
   pub got : (a : A) → P a → Q (get a)
-  pub kept : (a : A) → P a → (b : B) → Q b → P (put b a)
+  pub put-fits : (a : A) → P a → (b : B) → Q b → P (put b a)
 
 -- a field of a field
 abbrev pub _▸_ : {A B C : Type 0} {c : Codec A} {P : A → Type 0} {f : Codec B} {Q : B → Type 0} {g : Codec C} {R : C → Type 0} → Field c P f Q → Field f Q g R → Field c P g R
@@ -65,9 +65,9 @@ _▸_ {c} {f} {g} x y = record {
       sym (put-put (x .at) (f .size) (y .at) (g .size) (c .enc a) (g .enc b) (y .inside) (omega (arith, x .inside, x .len a h)))
       ∙ ap (λ (z : List ℕ). putMid (x .at) (f .size) (c .enc a) (putMid (y .at) (g .size) z (g .enc b))) (x .read a h)
       ∙ ap (putMid (x .at) (f .size) (c .enc a)) (y .write (x .get a) (x .got a h) b k)
-      ∙ x .write a h (y .put b (x .get a)) (y .kept (x .get a) (x .got a h) b k);
+      ∙ x .write a h (y .put b (x .get a)) (y .put-fits (x .get a) (x .got a h) b k);
   got = λ a h. y .got (x .get a) (x .got a h);
-  kept = λ a h b k. x .kept a h (y .put b (x .get a)) (y .kept (x .get a) (x .got a h) b k);
+  put-fits = λ a h b k. x .put-fits a h (y .put b (x .get a)) (y .put-fits (x .get a) (x .got a h) b k);
 }
 
 infixr 60 _▸_
@@ -85,7 +85,7 @@ module _ {A B : Type 0} {c : Codec A} {d : Codec B} {P : A → Type 0} {Q : B �
     read = λ x h. take-at (c .enc (x .0)) (d .enc (x .1)) (c .size) (u .len (x .0) (h .0));
     write = λ x h a k. ap (λ (z : List ℕ). c .enc a ++ z) (drop-at (c .enc (x .0)) (d .enc (x .1)) (c .size) (u .len (x .0) (h .0)));
     got = λ x h. h .0;
-    kept = λ x h a k. (k, h .1);
+    put-fits = λ x h a k. (k, h .1);
   }
 
   abbrev pub second : Field (pair c d) (λ x. P (x .0) × Q (x .1)) d Q
@@ -99,7 +99,7 @@ module _ {A B : Type 0} {c : Codec A} {d : Codec B} {P : A → Type 0} {Q : B �
     write = λ x h b k. ap (λ (z : List ℕ). putMid (c .size) (d .size) (c .enc (x .0) ++ z) (d .enc b)) (sym (append-nil (d .enc (x .1))))
         ∙ put-seam (c .size) (d .size) (c .enc (x .0)) (d .enc (x .1)) [] (d .enc b) (u .len (x .0) (h .0)) (v .len (x .1) (h .1)) ∙ ap (λ (z : List ℕ). c .enc (x .0) ++ z) (append-nil (d .enc b));
     got = λ x h. h .1;
-    kept = λ x h b k. (h .0, k);
+    put-fits = λ x h b k. (h .0, k);
   }
 
 -- ---- row i of a table
@@ -121,7 +121,7 @@ module _ {A : Type 0} {c : Codec A} {P : A → Type 0} (u : Sized c P) where
         write = λ xs g x k. row-write p (c .size) (length xs ∷ []) (map (c .enc) xs) (uniform u xs (g .1)) i (omega (arith, g .2, length-map xs (c .enc))) (c .enc x)
             ∙ rw (length-set xs i x, map-set);
         got = λ xs g. all-in P xs i d (g .1) (g .2);
-        kept = λ xs g x k. (omega (arith, length-set xs i x, g .0), all-set P xs i x (g .1) k, omega (arith, length-set xs i x, g .2));
+        put-fits = λ xs g x k. (omega (arith, length-set xs i x, g .0), all-set P xs i x (g .1) k, omega (arith, length-set xs i x, g .2));
       }
 
       -- of an array
@@ -135,7 +135,7 @@ module _ {A : Type 0} {c : Codec A} {P : A → Type 0} (u : Sized c P) where
         read = λ xs g. row-read p (c .size) [] (map (c .enc) xs) (uniform u xs (g .1)) i (omega (arith, g .0, length-map xs (c .enc))) ∙ getD-map-in (c .enc) xs i d [] (omega (arith, g .0));
         write = λ xs g x k. row-write p (c .size) [] (map (c .enc) xs) (uniform u xs (g .1)) i (omega (arith, g .0, length-map xs (c .enc))) (c .enc x) ∙ rw map-set;
         got = λ xs g. all-in P xs i d (g .1) (omega (arith, g .0));
-        kept = λ xs g x k. (omega (arith, length-set xs i x, g .0), all-set P xs i x (g .1) k);
+        put-fits = λ xs g x k. (omega (arith, length-set xs i x, g .0), all-set P xs i x (g .1) k);
       }
 
 -- ---- single numbers
@@ -202,5 +202,5 @@ in-bytes {c} {f} x = record {
   read = λ a h. uncells-part (x .at) (f .size) (c .enc a) ∙ ap uncells (x .read a h);
   write = λ a h b k. uncells-back (x .at) (f .size) (c .enc a) (f .enc b) ∙ ap uncells (x .write a h b k);
   got = x .got;
-  kept = x .kept;
+  put-fits = x .put-fits;
 }

@@ -28,7 +28,7 @@ pub record HoldsBodies (l : Limits) (b : List ℕ) (u : Replica) : Type 0 where
   pub fits : Printable l u
 
 -- the record area b holds some replica
-pub record Held (l : Limits) (b : List ℕ) : Type 0 where
+pub record Holding (l : Limits) (b : List ℕ) : Type 0 where
   pub replica : Replica
   pub holds : Holds l b replica
 

@@ -16,7 +16,7 @@ use Rattle.model.specs.declared.Limits.{Limits}
 use Rattle.model.specs.Calls.{clients}
 use Rattle.model.specs.Serial.{Version}
 use Rattle.model.specs.Replica.{Pending, Replica}
-use Rattle.versions.specs.Block.{width, held-in, block, framed}
+use Rattle.versions.specs.Block.{width, block-versions, block, framed}
 pub use Rattle.versions.specs.Block.{reader-of}
 use Rattle.layout.specs.Codec.{Codec, cell, pair, via, rows, array, counted, padded, bytewise}
 
@@ -106,7 +106,7 @@ RecordArea = Front × Tail
 
 -- an object's versions, in a block as the crate `versions` defines it
 abbrev pub object : Limits → Codec (List Version)
-object l = record { size = width (l .readers); enc = block (l .readers); dec = held-in; ok = framed (l .readers) }
+object l = record { size = width (l .readers); enc = block (l .readers); dec = block-versions; ok = framed (l .readers) }
 
 abbrev pub front : Limits → Codec Front
 front l =

@@ -20,8 +20,8 @@ use Rattle.model.specs.Calls.{clients}
 use Rattle.model.specs.Serial.{Version}
 use Rattle.model.specs.Replica.{Replica}
 use Rattle.model.specs.ListLaws.{All, all-join, all-take, all-drop}
-use Rattle.versions.specs.Block.{held-in, block, Small}
-use Rattle.versions.specs.Round.{count-few, small-held, length-held, held-block, length-block, below-block, framed-block, block-held}
+use Rattle.versions.specs.Block.{block-versions, block, Small}
+use Rattle.versions.specs.Round.{count-few, small-block-versions, length-block-versions, versions-of-block, length-block, below-block, framed-block, block-of-versions}
 use Rattle.layout.specs.Codec.{Codec, counted}
 use Rattle.layout.specs.Layout.{signed, reader, reader-of, of-reader, key-of, of-key, key, entry-of, of-entry, entry, parted, joined, within, two, run-of, of-run, run}
 use Rattle.layout.specs.Layout.{Row, row, Front, Tail, RecordArea, object, front, tail, record-cells, record-area, body, body-area, row-of, body-of, tail-of, record-of, bodies-of}
@@ -194,10 +194,10 @@ module _ (l : Limits) (s : Sane l) where
       record {
         len = λ vs h. length-block n vs (h .0);
         small = λ vs h. below-all (2 ^ 64) (block n vs) (below-block n vs (fits-small vs (h .1)) (omega (arith, h .0, s .readers)));
-        back = λ vs h. held-block n vs (fits-small vs (h .1));
+        back = λ vs h. versions-of-block n vs (fits-small vs (h .1));
         okay = λ vs h. framed-block n vs (h .0);
-        forth = λ b h k e. block-held n b h (all-below (2 ^ 64) b (omega arith) k) e;
-        good = λ b h k e. (omega (arith, length-held b, count-few n b e), small-fits (held-in b) (small-held b (all-below (2 ^ 64) b (omega arith) k)));
+        forth = λ b h k e. block-of-versions n b h (all-below (2 ^ 64) b (omega arith) k) e;
+        good = λ b h k e. (omega (arith, length-block-versions b, count-few n b e), small-fits (block-versions b) (small-block-versions b (all-below (2 ^ 64) b (omega arith) k)));
       }
 
   pub lawful-objects : Lawful Word (counted (l .objects) (object l)) (ObjectsFit l)

@@ -115,7 +115,7 @@ module _ (l : Limits) (s : Sane l) (b : List ℕ) (u : Replica) (h : Holds l b u
       let F = timestamp-field l (sized-objects l s) (sized-rows l s) in
       record {
         same = put-field F known v g ys refl v refl 0 refl w;
-        fits = fits-record l (with-timestamp v u) (F .kept (record-of u) known v g) (h .fits .bodies);
+        fits = fits-record l (with-timestamp v u) (F .put-fits (record-of u) known v g) (h .fits .bodies);
       }
 
   pub put-last : (c : ℕ) → c < clients → (v : ℕ) → Word v → (ys : List ℕ) → Put b ys (last-at c) v → Holds l ys (with-lasts (set (u .lasts) c v) u)
@@ -123,7 +123,7 @@ module _ (l : Limits) (s : Sane l) (b : List ℕ) (u : Replica) (h : Holds l b u
       let F = last-field l (sized-objects l s) (sized-rows l s) c k in
       record {
         same = put-field F known v g ys refl v refl (last-at c) (last-offset l s c k) w;
-        fits = fits-record l (with-lasts (set (u .lasts) c v) u) (F .kept (record-of u) known v g) (h .fits .bodies);
+        fits = fits-record l (with-lasts (set (u .lasts) c v) u) (F .put-fits (record-of u) known v g) (h .fits .bodies);
       }
 
   pub put-reader : (r : ℕ) → r < l .readers → (x : Option ℕ) → ReaderFits x → (ys : List ℕ) → Put b ys (reader-at r) (of-reader x) → Holds l ys (with-readers (set (u .readers) r x) u)
@@ -131,14 +131,14 @@ module _ (l : Limits) (s : Sane l) (b : List ℕ) (u : Replica) (h : Holds l b u
       let F = reader-field l (sized-objects l s) (sized-rows l s) r k in
       record {
         same = put-field F known x g ys refl (of-reader x) refl (reader-at r) (reader-offset l s r k) w;
-        fits = fits-record l (with-readers (set (u .readers) r x) u) (F .kept (record-of u) known x g) (h .fits .bodies);
+        fits = fits-record l (with-readers (set (u .readers) r x) u) (F .put-fits (record-of u) known x g) (h .fits .bodies);
       }
 
   -- ---- objects
 
   fits-objects : (xs : List (List Version)) → length xs ≤ l .objects → All (ObjectFits (l .readers)) xs → Printable l (with-objects xs u)
   fits-objects xs few g =
-      fits-record l (with-objects xs u) (objects-field l (sized-objects l s) (sized-rows l s) .kept (record-of u) known xs (few, g)) (h .fits .bodies)
+      fits-record l (with-objects xs u) (objects-field l (sized-objects l s) (sized-rows l s) .put-fits (record-of u) known xs (few, g)) (h .fits .bodies)
 
   -- object i
   pub write-object : (i : ℕ) → i < length (u .objects) → (vs : List Version) → ObjectFits (l .readers) vs → (ys : List ℕ) → ys ≡ putMid (object-at l i * 8) (object-width l * 8) b (uncells (object l .enc vs))

@@ -1,4 +1,4 @@
--- The early results on record are those of running the pending transactions in optimistic order, and finished ones stand first: kept by work, by a
+-- The early results on record are those of running the pending transactions in optimistic order, and finished ones stand first: preserved by work, by a
 -- commit's walk, by a delivery and by leaving. A validated run is the whole run on the committed table. Assumes nothing.
 use mathlib.Core.Path.{_≡_, refl, sym, ap, _∙_}
 use mathlib.Core.Logic.{_⊎_, inl, inr}

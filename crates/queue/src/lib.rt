@@ -12,7 +12,7 @@ ghost use Rattle.model.specs.Lists.{index};
 ghost use Rattle.model.specs.Calls.{clients, find as find-call};
 ghost use Rattle.model.specs.Answers.{finding};
 ghost use Rattle.layout.specs.Offsets.{Sane};
-ghost use Rattle.layout.specs.Holds.{Held};
+ghost use Rattle.layout.specs.Holds.{Holding};
 ghost use Rattle.layout.specs.Fit.{fit};
 ghost use Rattle.layout.specs.Contract.{Supported, Met};
 ghost use Rattle.queue.specs.RowKeys.{keys};
@@ -45,7 +45,7 @@ pub struct Place {
 // Whether a client's key is spent: its sequence number is not above the client's last number.
 pub fn is_spent(records: &[u8], l: Limits, client: u32, sequence: u32) -> bool
     requires { ⌜ Sane l × (client < clients) ⌝ }
-    requires { ⌜ Held l (now records) ⌝ }
+    requires { ⌜ Holding l (now records) ⌝ }
     ensures { λ r. ⌜ Spent l (now (records .entry)) client sequence r ⌝ }
 {
     sequence as u64 <= cells::get(records, layout::last_at(l, client as usize))
@@ -54,7 +54,7 @@ pub fn is_spent(records: &[u8], l: Limits, client: u32, sequence: u32) -> bool
 // Looks a transaction up among the pending ones.
 pub fn locate(records: &[u8], l: Limits, client: u32, sequence: u32) -> Place
     requires { ⌜ Sane l ⌝ }
-    requires { ⌜ Held l (now records) ⌝ }
+    requires { ⌜ Holding l (now records) ⌝ }
     ensures { λ r. ⌜ Located l (now (records .entry)) client sequence r ⌝ }
 {
     let count = cells::get(records, layout::pending_at(l)) as usize;

@@ -12,7 +12,7 @@ use Rattle.operation.specs.Body.{register-count, listed}
 use Rattle.execution.specs.declared.Counts.{Counts}
 use Rattle.execution.specs.Entries.{Entry, entry}
 use Rattle.execution.specs.Run.{Run}
-use Rattle.execution.specs.Arrays.{capacity, run-held, Room}
+use Rattle.execution.specs.Arrays.{capacity, run-of-arrays, Room}
 use Rattle.layout.specs.Rows.{flat}
 use Rattle.layout.specs.Layout.{run, entry as entry-codec}
 use Rattle.layout.specs.Offsets.{counter-at, outcome-at, register-at, reads-at, entries-at, entry-at}
@@ -49,7 +49,7 @@ pub record Readable (bs : List ℕ) : Type 0 where
 
 -- the run of a row stands in these counts and arrays
 pub record Loaded (cs : List ℕ) (t : Counts) (g : List ℤ) (ro : List ℕ) (rv : List ℤ) (wo : List ℕ) (wv : List ℤ) : Type 0 where
-  pub run : run-held t g ro rv wo wv ≡ run-in cs
+  pub run : run-of-arrays t g ro rv wo wv ≡ run-in cs
   pub registers : length g ≡ register-count
   pub read-room : Room ro rv
   pub write-room : Room wo wv
@@ -76,4 +76,4 @@ pub record Storable (t : Counts) (g : List ℤ) (xs : List ℕ) : Type 0 where
 
 -- the row ys: its key as it was in xs, and the run in these counts and arrays
 pub record Stored (t : Counts) (g : List ℤ) (ro : List ℕ) (rv : List ℤ) (wo : List ℕ) (wv : List ℤ) (xs ys : List ℕ) : Type 0 where
-  pub whole : (m : ℕ) → length xs ≡ entry-at m * 8 → ys ≡ take 8 xs ++ uncells (run m .enc (run-held t g ro rv wo wv))
+  pub whole : (m : ℕ) → length xs ≡ entry-at m * 8 → ys ≡ take 8 xs ++ uncells (run m .enc (run-of-arrays t g ro rv wo wv))

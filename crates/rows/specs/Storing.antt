@@ -17,7 +17,7 @@ use Rattle.operation.specs.Body.{register-count}
 use Rattle.operation.specs.BodyLaws.{getD-listed}
 use Rattle.execution.specs.declared.Counts.{Counts}
 use Rattle.execution.specs.Entries.{Entry}
-use Rattle.execution.specs.Arrays.{nth-entry, entries, run-held}
+use Rattle.execution.specs.Arrays.{nth-entry, entries, run-of-arrays}
 use Rattle.layout.specs.Rows.{flat, table, blank}
 use Rattle.layout.specs.Layout.{Row, row, run}
 use Rattle.layout.specs.Layout as layout
@@ -162,8 +162,8 @@ module _ (t : Counts) (g : List ℤ) (four : length g ≡ register-count) (c0 : 
   key-there : 1 ≡ length f0
   key-there = sym (length-take-le 1 c0 (omega arith))
 
-  key-kept : Behind c0 f0 c0
-  key-kept = record { same = sym (ap (λ (n : ℕ). take 1 c0 ++ drop n c0) (sym key-there) ∙ take-append-drop 1 c0) }
+  key-same : Behind c0 f0 c0
+  key-same = record { same = sym (ap (λ (n : ℕ). take 1 c0 ++ drop n c0) (sym key-there) ∙ take-append-drop 1 c0) }
 
   pub front-size : length (front t g c0) ≡ entry-at 0
   unfolding register-count
@@ -180,7 +180,7 @@ module _ (t : Counts) (g : List ℤ) (four : length g ≡ register-count) (c0 : 
       let n3 = length-append f2 regs in
       let n4 = length-append f3 (t .reads ∷ []) in
       let n = length-map g (ofZ w64) in
-      let b1 = behind-one c0 f0 c0 c1 counter-at (t .counter) key-kept key-there (omega arith) e1 in
+      let b1 = behind-one c0 f0 c0 c1 counter-at (t .counter) key-same key-there (omega arith) e1 in
       let b2 = behind-one c0 f1 c1 c2 outcome-at (t .outcome) b1 (omega (arith, key-there)) (omega arith) e2 in
       let b3 = behind-part c0 f2 c2 regs c3 (register-at 0) b2 (omega (arith, key-there)) e3 in
       let b4 = behind-one c0 f3 c3 c4 reads-at (t .reads) b3 (omega (arith, key-there, four)) (omega arith) e4 in
@@ -204,7 +204,7 @@ module _ (t : Counts) (g : List ℤ) (four : length g ≡ register-count) (ro : 
   regs′ = map (ofZ w64) g
 
   -- the cells of the run
-  run-cells : (m : ℕ) → run m .enc (run-held t g ro rv wo wv)
+  run-cells : (m : ℕ) → run m .enc (run-of-arrays t g ro rv wo wv)
       ≡ t .counter ∷ t .outcome ∷ (regs′ ++ (t .reads ∷ total ∷ (entry-cells rs ++ (entry-cells ws ++ blank ((m - total) * 2)))))
   unfolding table entry-cells
   run-cells m =
@@ -230,7 +230,7 @@ module _ (t : Counts) (g : List ℤ) (four : length g ≡ register-count) (ro : 
     z = blank (entry-at m - entry-at total)
 
     pub row-stored : (c1 c2 c3 c4 : List ℕ) → Behind cs (front t g cs) c1 → c2 ≡ splice c1 (entry-at 0) sr → c3 ≡ splice c2 (entry-at (t .reads)) sw → c4 ≡ splice c3 (entry-at total) z
-        → c4 ≡ take 1 cs ++ run m .enc (run-held t g ro rv wo wv)
+        → c4 ≡ take 1 cs ++ run m .enc (run-of-arrays t g ro rv wo wv)
     row-stored c1 c2 c3 c4 b1 e2 e3 e4 =
         let f = front t g cs in
         let n1 = front-size t g four cs (omega arith) in
@@ -259,6 +259,6 @@ row-bytes xs ys n r hx hy lx ly e =
 
 -- a row that held some run holds the new one
 pub stored-back : (m : ℕ) (r : Row) (t : Counts) (g : List ℤ) (ro : List ℕ) (rv : List ℤ) (wo : List ℕ) (wv : List ℤ) (xs ys : List ℕ) → xs ≡ uncells (row m .enc r)
-    → length xs ≡ entry-at m * 8 → Stored t g ro rv wo wv xs ys → ys ≡ uncells (row m .enc (r .0, run-held t g ro rv wo wv))
+    → length xs ≡ entry-at m * 8 → Stored t g ro rv wo wv xs ys → ys ≡ uncells (row m .enc (r .0, run-of-arrays t g ro rv wo wv))
 stored-back m r t g ro rv wo wv xs ys e n k =
-    k .whole m n ∙ ap (λ (x : List ℕ). take 8 x ++ uncells (run m .enc (run-held t g ro rv wo wv))) e
+    k .whole m n ∙ ap (λ (x : List ℕ). take 8 x ++ uncells (run m .enc (run-of-arrays t g ro rv wo wv))) e

@@ -16,7 +16,7 @@ use Rattle.cells.specs.Zeros.{zeros}
 use Rattle.model.specs.Lists.{any, all}
 use Rattle.model.specs.ListLaws.{All, all-at, all-set, any-has, or-left, or-right}
 use Rattle.model.specs.ShapeCheck.{versions-shaped}
-use Rattle.versions.specs.Block.{width, versions-in, held-in, stamps, chunks, framed, block-ok, blocks-ok, between, lower, lowest, chain, chained}
+use Rattle.versions.specs.Block.{width, versions-in, block-versions, stamps, chunks, framed, block-ok, blocks-ok, between, lower, lowest, chain, chained}
 use Rattle.versions.specs.OnePass.{le-or-lt, lowest-le}
 use Rattle.versions.specs.BlockLoops.{ok-none, ok-many, ok-late, ok-used, ok-chain, ok-single, ok-single-no, chain-next, chain-loose, chain-end}
 
@@ -240,4 +240,4 @@ stamps-closed (suc r ∷ rc) h = absurd (true≢false (sym h ∙ ap (_&& zeros r
 pub blocks-closed : (n timestamp : ℕ) (rc : List ℕ) (m : ℕ) (cs : List ℕ) → zeros rc ≡ true → blocks-ok n timestamp rc m cs ≡ blocks-ok n timestamp [] m cs
 unfolding blocks-ok block-ok stamps
 blocks-closed n timestamp rc m cs h =
-    ap (λ (rs : List ℕ). all (λ bc. framed n bc && versions-shaped timestamp rs (held-in bc)) (chunks (width n) m cs)) (stamps-closed rc h)
+    ap (λ (rs : List ℕ). all (λ bc. framed n bc && versions-shaped timestamp rs (block-versions bc)) (chunks (width n) m cs)) (stamps-closed rc h)

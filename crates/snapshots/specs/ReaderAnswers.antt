@@ -27,7 +27,7 @@ use Rattle.layout.specs.Holds.{Holds, with-readers}
 use Rattle.layout.specs.Reading.{get-timestamp, get-reader}
 use Rattle.layout.specs.Writing.{put-reader}
 use Rattle.layout.specs.Printable.{ReaderFits}
-use Rattle.versions.specs.Block.{held-in}
+use Rattle.versions.specs.Block.{block-versions}
 use Rattle.layout.specs.Contract.{Answered}
 use Rattle.snapshots.specs.ClosePruning.{Pruned}
 use Rattle.snapshots.specs.ReaderBlocks.{lent-object}
@@ -163,12 +163,12 @@ module _ (l : Limits) (s : Sane l) (b : List ℕ) (u : Replica) (h : Holds l b u
           turned-back l (read r o) u b 12 (read-refusal l u r o ∙ rw (lt-leb (l .readers) r low, opened, le-leb (length (u .objects)) o k)) h
 
       -- object o's block is lent: k bytes from cell a on
-      pub read-done : (o : ℕ) → o < length (u .objects) → (a k : ℕ) → a ≡ object-at l o → k ≡ object-width l * 8 → (v : ℤ) → v ≡ as-of (x - 1) (held-in (cells (midOf (a * 8) k b))) .value → Answered l (read r o) u b (value v)
+      pub read-done : (o : ℕ) → o < length (u .objects) → (a k : ℕ) → a ≡ object-at l o → k ≡ object-width l * 8 → (v : ℤ) → v ≡ as-of (x - 1) (block-versions (cells (midOf (a * 8) k b))) .value → Answered l (read r o) u b (value v)
       unfolding perform
       read-done o q a k ea ek v ev =
           let vs = getD (u .objects) o [] in
           let y = getD (u .readers) r none in
-          let same : as-of (x - 1) (held-in (cells (midOf (a * 8) k b))) ≡ view y vs =
+          let same : as-of (x - 1) (block-versions (cells (midOf (a * 8) k b))) ≡ view y vs =
           ap (as-of (x - 1)) (lent-object l s b u h o q a k ea ek) ∙ ap (λ (t : ℕ). as-of (t - 1) vs) (e ∙ was) ∙ seen y vs (omega (arith, was)) in
           done-by l (read r o) u b (read-refusal l u r o ∙ rw (lt-leb (l .readers) r low, opened, lt-leb (length (u .objects)) o q)) (value v)
           (ap value (ev ∙ ap (λ (w : Version). w .value) same)) h

@@ -24,8 +24,8 @@ use Rattle.layout.specs.Holds.{Holds}
 use Rattle.layout.specs.Reading.{object-part, objects-part, readers-part}
 use Rattle.layout.specs.Writing.{write-objects}
 use Rattle.layout.specs.ObjectBlock.{objects-blocks, readers-stamps}
-use Rattle.versions.specs.Block.{width, held-in, stamps, chunks, objects-in, block, laid, Small}
-use Rattle.versions.specs.Round.{length-block, below-block, ok-block, held-block, length-held, parsed}
+use Rattle.versions.specs.Block.{width, block-versions, stamps, chunks, objects-in, block, laid, Small}
+use Rattle.versions.specs.Round.{length-block, below-block, ok-block, versions-of-block, length-block-versions, parsed}
 use Rattle.versions_close.specs.Closing.{Checked}
 use Rattle.snapshots.specs.ClosePruning.{pruned}
 
@@ -70,9 +70,9 @@ module _ (n : ℕ) (few : n ≤ 65536) where
   unfolding objects-in
   laid-objects objs g = rw (cells-uncells (laid n objs) (below-laid objs g), chunks-laid objs g) (each objs g)
     where
-      each : (objs : List (List Version)) → All (Fitting n) objs → map held-in (map (block n) objs) ≡ objs
+      each : (objs : List (List Version)) → All (Fitting n) objs → map block-versions (map (block n) objs) ≡ objs
       each [] g = refl
-      each (vs ∷ objs) g = ap₂ _∷_ (held-block n vs (g .0 .0)) (each objs (g .1))
+      each (vs ∷ objs) g = ap₂ _∷_ (versions-of-block n vs (g .0 .0)) (each objs (g .1))
 
 prune-fits : (n : ℕ) (rs : List ℕ) (vs : List Version) → ObjectFits n vs → ObjectFits n (prune rs vs)
 unfolding prune
@@ -86,14 +86,14 @@ module _ (l : Limits) (s : Sane l) (b : List ℕ) (u : Replica) (h : Holds l b u
 
   -- object i's block, lent
   module _ (i : ℕ) (low : i < length (u .objects)) (a k : ℕ) (ea : a ≡ object-at l i) (ek : k ≡ object-width l * 8) where
-    pub lent-object : held-in (cells (midOf (a * 8) k b)) ≡ getD (u .objects) i []
+    pub lent-object : block-versions (cells (midOf (a * 8) k b)) ≡ getD (u .objects) i []
     lent-object =
         let vs = getD (u .objects) i [] in
         parsed (l .readers) vs (midOf (a * 8) k b) (fits-small vs (fits i low .1)) (omega (arith, fits i low .0, s .readers))
         (rw (ea, ek) (object-part l s b u h i low))
 
     pub lent-count : getD (cells (midOf (a * 8) k b)) 0 0 ≤ l .readers + 1
-    lent-count = omega (arith, length-held (cells (midOf (a * 8) k b)), ap length lent-object, fits i low .0)
+    lent-count = omega (arith, length-block-versions (cells (midOf (a * 8) k b)), ap length lent-object, fits i low .0)
 
   -- the readers' cells, from cell f up to cell t, copied over all of old
   pub copied-readers : (f t : ℕ) → f ≡ reader-at 0 → t ≡ size-at l → (old rs : List ℕ) → length old ≡ l .readers * 8

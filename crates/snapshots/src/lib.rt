@@ -5,13 +5,13 @@ use model::Reading;
 use model::Reply;
 ghost use Rattle.model.specs.Answers.{reply, reading};
 ghost use Rattle.model.specs.Calls.{open-reader, read as read-call, close-reader};
-ghost use Rattle.layout.specs.Contract.{Supported, HeldInShape, MetBeside};
+ghost use Rattle.layout.specs.Contract.{Supported, HoldsShaped, MetBeside};
 ghost use Rattle.snapshots.specs.ClosePruning.{Prunable, Pruned};
 
 // Opens a reader that is closed: its cell takes the timestamp + 1, so that one opened at timestamp 0 does not look closed.
 pub fn open_reader(records: &mut [u8], l: Limits, reader: u32) -> Reply
     requires { ⌜ Supported l ⌝ }
-    requires { ⌜ HeldInShape l (now records) ⌝ }
+    requires { ⌜ HoldsShaped l (now records) ⌝ }
     ensures { λ r. ⌜ MetBeside l (open-reader reader) (now (records .entry)) (now (records .exit)) (reply r) ⌝ }
 {
     let r = reader as usize;
@@ -30,7 +30,7 @@ pub fn open_reader(records: &mut [u8], l: Limits, reader: u32) -> Reply
 // What an open reader sees of an object: looked up in the object's block by the reader's stamp, which its cell has with 1 added.
 pub fn read(records: &[u8], l: Limits, reader: u32, object: u32) -> Reading
     requires { ⌜ Supported l ⌝ }
-    requires { ⌜ HeldInShape l (now records) ⌝ }
+    requires { ⌜ HoldsShaped l (now records) ⌝ }
     ensures { λ r. ⌜ MetBeside l (read-call reader object) (now (records .entry)) (now (records .entry)) (reading r) ⌝ }
 {
     let r = reader as usize;
@@ -69,7 +69,7 @@ fn prune(records: &mut [u8], l: Limits, cell: u64, snapshots: &mut [u8])
 // Closes an open reader, and takes out what it alone held.
 pub fn close_reader(records: &mut [u8], l: Limits, reader: u32) -> Reply
     requires { ⌜ Supported l ⌝ }
-    requires { ⌜ HeldInShape l (now records) ⌝ }
+    requires { ⌜ HoldsShaped l (now records) ⌝ }
     ensures { λ r. ⌜ MetBeside l (close-reader reader) (now (records .entry)) (now (records .exit)) (reply r) ⌝ }
 {
     let r = reader as usize;

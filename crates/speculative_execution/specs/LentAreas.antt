@@ -42,15 +42,15 @@ module _ {l : Limits} (s : Sane l) (records bodies : List ℕ) (f : fit l (recor
   u = parse l (records, bodies)
 
   module _ (b : Below 256 records) where
-    bodies-held : HoldsBodies l bodies u
-    bodies-held = fit-bodies l s (records, bodies) b f
+    bodies-holding : HoldsBodies l bodies u
+    bodies-holding = fit-bodies l s (records, bodies) b f
 
     pub pending-there : getD (cells records) (pending-at l) 0 ≡ length (u .pending)
     pending-there = get-pending l s records u (fit-holds l s (records, bodies) b f)
 
     module _ (i : ℕ) (h : i < length (u .pending)) where
       pub low-place : i < l .pending
-      low-place = omega (arith, few-pending l u (bodies-held .fits))
+      low-place = omega (arith, few-pending l u (bodies-holding .fits))
 
       abbrev j : Pending
       j = getD (u .pending) i nobody
@@ -58,16 +58,16 @@ module _ {l : Limits} (s : Sane l) (records bodies : List ℕ) (f : fit l (recor
       -- a body lies in its place
       pub body-inside : (body-at l i < length bodies) × (body-at l i + body-length (getD bodies (body-at l i) 0) ≤ length bodies)
       body-inside =
-          let n = body-size l s bodies u bodies-held i h nobody in
+          let n = body-size l s bodies u bodies-holding i h nobody in
           let w : getD bodies (body-at l i) 0 ≤ l .operations = omega (arith, n, formed-at (fit-shape l (records, bodies) f) i h .most) in
           let p = mul-le-mul-right (body-width l) low-place in
           let q = suc-mul i (body-width l) in
-          (omega (arith, bodies-long l s bodies u bodies-held), omega (arith, bodies-long l s bodies u bodies-held))
+          (omega (arith, bodies-long l s bodies u bodies-holding), omega (arith, bodies-long l s bodies u bodies-holding))
 
       pub lent-body : (n : ℕ) → n ≡ getD bodies (body-at l i) 0 → midOf (body-at l i) (body-at l i + body-length n - body-at l i) bodies ≡ body-of j
       lent-body n e =
-          let z : body-at l i + body-length n - body-at l i ≡ length (body-of j) = omega (arith, e, body-size l s bodies u bodies-held i h nobody, body-span l s bodies u bodies-held i h nobody) in
-          ap (λ (k : ℕ). midOf (body-at l i) k bodies) z ∙ body-part l s bodies u bodies-held i h nobody
+          let z : body-at l i + body-length n - body-at l i ≡ length (body-of j) = omega (arith, e, body-size l s bodies u bodies-holding i h nobody, body-span l s bodies u bodies-holding i h nobody) in
+          ap (λ (k : ℕ). midOf (body-at l i) k bodies) z ∙ body-part l s bodies u bodies-holding i h nobody
 
 -- ---- the loop, by the code's own offsets
 

@@ -314,8 +314,8 @@ module _ {l : Limits} (s : Sane l) (few : l .operations ≤ capacity) {u : Repli
             lv .row m (row-of j) room old-row ex
             ∙ ap₂ (λ (x : Transaction) (p : Run). uncells (row m .enc ((x .client, x .sequence), p))) (sym sent) is
 
-        held : {zs : List ℕ} → zs ≡ putMid (row-at l i * 8) (row-width l * 8) records ys → Holds l zs (with-pending (take (suc i) W ++ drop (suc i) js) u)
-        held {zs} e =
+        holding : {zs : List ℕ} → zs ≡ putMid (row-at l i * 8) (row-width l * 8) records ys → Holds l zs (with-pending (take (suc i) W ++ drop (suc i) js) u)
+        holding {zs} e =
             subst (λ (x : List Pending). Holds l zs (with-pending x u)) (place-set nobody W js i same here)
             (write-row l s records (with-pending (take i W ++ drop i js) u) (g .holds) i (omega (arith, rows-there)) w new-row new-body zs (e ∙ ap (putMid (row-at l i * 8) (row-width l * 8) records) new-bytes))
 
@@ -342,7 +342,7 @@ module _ {l : Limits} (s : Sane l) (few : l .operations ≤ capacity) {u : Repli
             (record {
               within = omega arith;
               unspent = omega arith;
-              holds = held e;
+              holds = holding e;
               rest = ap₂ (λ (R : Table) (x : ℕ). worked R x (drop (suc i) js)) T less ∙ sym (split .1 ∙ ap (λ (x : Bool). cond x (worked (over (w .run .writes) S) (left - used S left j) (drop (suc i) js)) (drop (suc i) js)) t);
               counting = omega arith;
               size = n ∙ g .size;
@@ -362,7 +362,7 @@ module _ {l : Limits} (s : Sane l) (few : l .operations ≤ capacity) {u : Repli
             let most = turn-most in
             let some = g .unspent in
             record {
-              holds = subst (λ (x : List Pending). Holds l zs (with-pending x u)) (place-all W js (suc i) same others) (held e);
+              holds = subst (λ (x : List Pending). Holds l zs (with-pending x u)) (place-all W js (suc i) same others) (holding e);
               operations = omega arith;
               finished =
                   sym

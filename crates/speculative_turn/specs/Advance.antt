@@ -15,7 +15,7 @@ use Rattle.execution.specs.declared.Counts.{Counts}
 use Rattle.execution.specs.Run.{Table, table-of, object-count, Run, is-none, due-at, ended, steps, counted, over}
 use Rattle.execution.specs.ReadAgreement.{stay}
 use Rattle.execution.specs.RunShape.{every, sound}
-use Rattle.execution.specs.Arrays.{capacity, entries, run-held, Lent}
+use Rattle.execution.specs.Arrays.{capacity, entries, run-of-arrays, Lent}
 use Rattle.execution_interpreter.specs.declared.Executed.{Executed}
 use Rattle.execution_interpreter.specs.Executes.{Executes}
 use Rattle.layout.specs.Layout.{Row, row}
@@ -61,12 +61,12 @@ pub record Leaves (xs body : List ℕ) (vs : List ℤ) (budget : ℕ) (a : Advan
 
 -- the run after the operations stands in these counts and arrays
 pub record Ran (xs body : List ℕ) (vs : List ℤ) (budget : ℕ) (e : Executed) (g : List ℤ) (ro : List ℕ) (rv : List ℤ) (wo : List ℕ) (wv : List ℤ) : Type 0 where
-  pub run : run-held (e .counts) g ro rv wo wv ≡ after xs body vs budget
+  pub run : run-of-arrays (e .counts) g ro rv wo wv ≡ after xs body vs budget
   pub used : e .used ≡ operations-used xs body vs budget
 
 -- ---- counts and the run that they stand for
 
-counts-of : (t : Counts) (g : List ℤ) (ro : List ℕ) (rv : List ℤ) (wo : List ℕ) (wv : List ℤ) (p : Run) → run-held t g ro rv wo wv ≡ p
+counts-of : (t : Counts) (g : List ℤ) (ro : List ℕ) (rv : List ℤ) (wo : List ℕ) (wv : List ℤ) (p : Run) → run-of-arrays t g ro rv wo wv ≡ p
     → (t .reads ≡ length (p .reads)) × (t .writes ≡ length (p .writes)) × (t .counter ≡ p .counter)
 counts-of t g ro rv wo wv p e = (
   sym (length-entries (t .reads) ro rv) ∙ ap (λ (q : Run). length (q .reads)) e,
@@ -130,13 +130,13 @@ module _ {xs body : List ℕ} {vs : List ℤ} {budget : ℕ} (r : Ready xs body 
     pub lent : Lent t ro rv wo wv
     lent =
         let n = counts-of t g ro rv wo wv (before xs) (k .run) in
-        record { kept = record { reads = omega (arith, r .reads); writes = omega (arith, r .writes) }; read-room = k .read-room; write-room = k .write-room }
+        record { bounded = record { reads = omega (arith, r .reads); writes = omega (arith, r .writes) }; read-room = k .read-room; write-room = k .write-room }
 
     pub unstopped : ended b (before xs) ≡ false → t .outcome ≡ 0
     unstopped e = going-on b (t .counter) (t .outcome) (ap (ended b) (k .run) ∙ e)
 
     pub ran : {e : Executed} {g′ : List ℤ} {ro′ : List ℕ} {rv′ : List ℤ} {wo′ : List ℕ} {wv′ : List ℤ}
-        → Executes T b budget (run-held t g ro rv wo wv) (run-held (e .counts) g′ ro′ rv′ wo′ wv′) (e .used) → Ran xs body vs budget e g′ ro′ rv′ wo′ wv′
+        → Executes T b budget (run-of-arrays t g ro rv wo wv) (run-of-arrays (e .counts) g′ ro′ rv′ wo′ wv′) (e .used) → Ran xs body vs budget e g′ ro′ rv′ wo′ wv′
     ran x = record { run = x .run ∙ ap (steps T b budget) (k .run); used = x .count ∙ ap (counted T b budget) (k .run) }
 
   -- ---- carried on to e in these arrays,

@@ -17,13 +17,13 @@ use Rattle.text.specs.Hexadecimal.{glyph-of, spelled, nibble-of, pairs, 
 -- i digits of w are read, and their n bytes stand at the start of the buffer
 pub record Reading (w before out : List ℕ) (i n : ℕ) : Type 0 where
   pub within : i ≤ length w
-  pub kept : length out ≡ length before
+  pub same-size : length out ≡ length before
   pub room : n ≤ length before
   pub tested : pairs w ≡ pairs (drop i w)
   pub read : hex-bytes w ≡ take n out ++ hex-bytes (drop i w)
 
 pub begun : (w before : List ℕ) → Reading w before before 0 0
-begun w before = record { within = omega arith; kept = refl; room = omega arith; tested = refl; read = refl }
+begun w before = record { within = omega arith; same-size = refl; room = omega arith; tested = refl; read = refl }
 
 refused : (w before after : List ℕ) → pairs w ≡ false → Parsed w before after Malformed
 refused w before after e = record { answer = rw e; bytes = λ q. let z : _≡_ {A = ℕ} 0 1 = cc in absurd (omega arith) }
@@ -53,15 +53,15 @@ module _ (w before out : List ℕ) (i n : ℕ) (r : Reading w before out i n) wh
 
     pub full : length out ≤ n → Parsed w before out Malformed
     full t =
-        let l : length before < length (hex-bytes w) = rw (bytes-here, length-append, length-take-le n out (omega (arith, r .kept, r .room))) (omega (arith, r .kept)) in
+        let l : length before < length (hex-bytes w) = rw (bytes-here, length-append, length-take-le n out (omega (arith, r .same-size, r .room))) (omega (arith, r .same-size)) in
         record { answer = rw (lt-leb (length (hex-bytes w)) (length before) l, and-false); bytes = λ q. let z : _≡_ {A = ℕ} 0 1 = cc in absurd (omega arith) }
 
     pub goes-on : high ≤ 15 → low ≤ 15 → n < length out → Reading w before (set out n (high * 16 + low)) (i + 2) (n + 1)
     goes-on a b t =
         record {
           within = omega arith;
-          kept = length-set out n (high * 16 + low) ∙ r .kept;
-          room = omega (arith, r .kept);
+          same-size = length-set out n (high * 16 + low) ∙ r .same-size;
+          room = omega (arith, r .same-size);
           tested = pairs-here ∙ rw (lt-ltb high 16 (omega arith), lt-ltb low 16 (omega arith));
           read = bytes-here ∙ rw (add-one, take-suc-set out n (high * 16 + low) t, append-assoc);
         }
@@ -76,7 +76,7 @@ module _ (w before out : List ℕ) (i n : ℕ) (r : Reading w before out i n) wh
   unfolding pairs hex-bytes
   ended h =
       let e : hex-bytes w ≡ take n out = r .read ∙ rw (drop-of-length-le w h, append-nil) in
-      let l : length (hex-bytes w) ≡ n = rw e (length-take-le n out (omega (arith, r .kept, r .room))) in
+      let l : length (hex-bytes w) ≡ n = rw e (length-take-le n out (omega (arith, r .same-size, r .room))) in
       let p : pairs w ≡ true = r .tested ∙ rw (drop-of-length-le w h) in
       record { answer = rw (p, l, le-leb n (length before) (r .room)); bytes = λ q. rw l (sym e) }
 

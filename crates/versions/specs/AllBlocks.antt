@@ -5,7 +5,7 @@ use mathlib.Core.List.{List, [], _∷_, map}
 use Prim.Native.Nat.{ℕ}
 use Rattle.model.specs.Lists.{all}
 use Rattle.model.specs.ShapeCheck.{versions-shaped}
-use Rattle.versions.specs.Block.{width, held-in, stamps, chunks, objects-in, framed, block-ok, blocks-ok}
+use Rattle.versions.specs.Block.{width, block-versions, stamps, chunks, objects-in, framed, block-ok, blocks-ok}
 
 -- the check of m blocks is: their frames, and the model's rules on each object's versions
 pub blocks-check : (n timestamp : ℕ) (rc : List ℕ) (m : ℕ) (cs : List ℕ) → blocks-ok n timestamp rc m cs ≡ all (framed n) (chunks (width n) m cs) && all (versions-shaped timestamp (stamps rc)) (objects-in n m cs)
@@ -18,6 +18,6 @@ blocks-check n timestamp rc m cs = go′ (chunks (width n) m cs)
     swap true false false d = refl
     swap false b c d = refl
 
-    go′ : (bs : List (List ℕ)) → all (block-ok n timestamp rc) bs ≡ all (framed n) bs && all (versions-shaped timestamp (stamps rc)) (map held-in bs)
+    go′ : (bs : List (List ℕ)) → all (block-ok n timestamp rc) bs ≡ all (framed n) bs && all (versions-shaped timestamp (stamps rc)) (map block-versions bs)
     go′ [] = refl
-    go′ (bc ∷ bs) = rw (go′ bs) (swap (framed n bc) (versions-shaped timestamp (stamps rc) (held-in bc)) (all (framed n) bs) (all (versions-shaped timestamp (stamps rc)) (map held-in bs)))
+    go′ (bc ∷ bs) = rw (go′ bs) (swap (framed n bc) (versions-shaped timestamp (stamps rc) (block-versions bc)) (all (framed n) bs) (all (versions-shaped timestamp (stamps rc)) (map block-versions bs)))

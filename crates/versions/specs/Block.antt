@@ -32,8 +32,8 @@ versions-in zero cs = []
 versions-in (suc k) cs = version-of (getD cs 0 0) (getD cs 1 0) ∷ versions-in k (drop 2 cs)
 
 -- a block's versions
-unfoldable pub held-in : List ℕ → List Version
-held-in bc = versions-in (getD bc 0 0) (drop 1 bc)
+unfoldable pub block-versions : List ℕ → List Version
+block-versions bc = versions-in (getD bc 0 0) (drop 1 bc)
 
 abbrev pub reader-of : ℕ → Option ℕ
 reader-of zero = none
@@ -45,7 +45,7 @@ stamps rc = opens (map reader-of rc)
 
 -- m objects' versions
 unfoldable pub objects-in : ℕ → ℕ → List ℕ → List (List Version)
-objects-in n m cs = map held-in (chunks (width n) m cs)
+objects-in n m cs = map block-versions (chunks (width n) m cs)
 
 -- ---- and back
 
@@ -75,7 +75,7 @@ framed n bc = leb (getD bc 0 0) (suc n) && zeros (drop (1 + 2 * getD bc 0 0) bc)
 
 -- one object: its frame, and the model's rules on its versions
 unfoldable pub block-ok : ℕ → ℕ → List ℕ → List ℕ → Bool
-block-ok n timestamp rc bc = framed n bc && versions-shaped timestamp (stamps rc) (held-in bc)
+block-ok n timestamp rc bc = framed n bc && versions-shaped timestamp (stamps rc) (block-versions bc)
 
 -- m objects
 unfoldable pub blocks-ok : ℕ → ℕ → List ℕ → ℕ → List ℕ → Bool

@@ -17,7 +17,7 @@ use Rattle.cells.specs.CellLaws.{cells-next, cells-end, cells-rest, cells-take,
 use Rattle.cells.specs.Zeros.{zeros}
 use Rattle.model.specs.Replica.{as-of}
 use Rattle.model.specs.ShapeCheck.{versions-shaped}
-use Rattle.versions.specs.Block.{width, version-of, versions-in, held-in, stamps, chunks, framed, block-ok, blocks-ok, between, lowest, chain, chained}
+use Rattle.versions.specs.Block.{width, version-of, versions-in, block-versions, stamps, chunks, framed, block-ok, blocks-ok, between, lowest, chain, chained}
 use Rattle.versions.specs.OnePass.{versions-chain, lowest-below}
 
 -- ---- some_between
@@ -62,8 +62,8 @@ module _ (n k r : ℕ) (cs : List ℕ) (s : ℕ) (g : s ≡ getD cs k 0) (h : 0 
   pub look-on : r < s → as-of r (versions-in n (drop k cs)) .value ≡ as-of r (versions-in (n - 1) (drop (k + 2) cs)) .value
   look-on l = rw (versions-step n k cs h, ← g, lt-leb s r l)
 
-pub look-start : (cs : List ℕ) (r k : ℕ) → k ≡ getD cs 0 0 → as-of r (held-in cs) .value ≡ as-of r (versions-in k (drop 1 cs)) .value
-unfolding held-in
+pub look-start : (cs : List ℕ) (r k : ℕ) → k ≡ getD cs 0 0 → as-of r (block-versions cs) .value ≡ as-of r (versions-in k (drop 1 cs)) .value
+unfolding block-versions
 look-start cs r k e = rw e
 
 pub look-end : (n r : ℕ) (cs : List ℕ) → n ≤ 0 → as-of r (versions-in n cs) .value ≡ pos 0
@@ -98,7 +98,7 @@ versions-none timestamp rs = refl
 -- k is the count, f the newest version's stamp
 module _ (n timestamp : ℕ) (rc : List ℕ) (xs : List ℕ) (ex : length xs ≡ width n * 8) (k : ℕ) (g : k ≡ getD (cells xs) 0 0) where
   pub ok-none : k ≡ 0 → block-ok n timestamp rc (cells xs) ≡ false
-  unfolding block-ok held-in versions-in
+  unfolding block-ok block-versions versions-in
   ok-none z = rw (← g, z, versions-none) (and-false (framed n (cells xs)))
 
   pub ok-many : n + 1 < k → block-ok n timestamp rc (cells xs) ≡ false
@@ -106,8 +106,8 @@ module _ (n timestamp : ℕ) (rc : List ℕ) (xs : List ℕ) (ex : length xs ≡
   ok-many h = rw (← g, lt-leb k (suc n) (omega arith))
 
   module _ (p : 0 < k) (q : k ≤ n + 1) (f : ℕ) (gf : f ≡ getD (cells xs) 1 0) where
-    rules : versions-shaped timestamp (stamps rc) (held-in (cells xs)) ≡ leb f timestamp && chain rc (lowest (suc timestamp) rc) f (versions-in (k - 1) (drop 3 (cells xs)))
-    unfolding held-in
+    rules : versions-shaped timestamp (stamps rc) (block-versions (cells xs)) ≡ leb f timestamp && chain rc (lowest (suc timestamp) rc) f (versions-in (k - 1) (drop 3 (cells xs)))
+    unfolding block-versions
     rules = rw (← g, versions-step k 1 (cells xs) p, ← gf) (versions-chain timestamp rc (version-of f (getD (cells xs) 2 0)) (versions-in (k - 1) (drop 3 (cells xs))))
 
     pub ok-late : timestamp < f → block-ok n timestamp rc (cells xs) ≡ false
@@ -130,7 +130,7 @@ module _ (n timestamp : ℕ) (rc : List ℕ) (xs : List ℕ) (ex : length xs ≡
 
     -- one version: it is not above the timestamp and serves every open reader exactly if it is below low
     module _ (o : k ≡ 1) (low : ℕ) (w : low ≡ lowest (timestamp + 1) rc) where
-      single : versions-shaped timestamp (stamps rc) (held-in (cells xs)) ≡ ltb f low
+      single : versions-shaped timestamp (stamps rc) (block-versions (cells xs)) ≡ ltb f low
       single =
           let z : k - 1 ≤ 0 = omega arith in
           rules ∙ ap (leb f timestamp &&_) (chain-end rc (lowest (suc timestamp) rc) f (k - 1) (drop 3 (cells xs)) z) ∙ go′ (leb f timestamp) refl ∙ rw (w, add-one)

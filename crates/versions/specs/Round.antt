@@ -19,7 +19,7 @@ use Rattle.cells.specs.Zeros.{zeros, zeros-replicate, zeros-true}
 use Rattle.model.specs.Serial.{Version}
 use Rattle.model.specs.Shape.{VersionsShape}
 use Rattle.model.specs.ShapeCheck.{versions-shaped, versions-say}
-use Rattle.versions.specs.Block.{width, versions-in, stamps, held-in, flat, block, Small, framed, block-ok}
+use Rattle.versions.specs.Block.{width, versions-in, stamps, block-versions, flat, block, Small, framed, block-ok}
 
 pub fit : {b : ℕ} → b < 2 ^ 64 → Fits w64 b
 fit h = record { fits = h }
@@ -45,15 +45,15 @@ module _ (n : ℕ) (bc : List ℕ) (f : framed n bc ≡ true) where
 -- ---- what the check says
 
 module _ (n timestamp : ℕ) (rc bc : List ℕ) (ok : block-ok n timestamp rc bc ≡ true) where
-  parts : (framed n bc ≡ true) × (versions-shaped timestamp (stamps rc) (held-in bc) ≡ true)
+  parts : (framed n bc ≡ true) × (versions-shaped timestamp (stamps rc) (block-versions bc) ≡ true)
   unfolding block-ok
-  parts = both (framed n bc) (versions-shaped timestamp (stamps rc) (held-in bc)) ok
+  parts = both (framed n bc) (versions-shaped timestamp (stamps rc) (block-versions bc)) ok
 
   pub ok-framed : framed n bc ≡ true
   ok-framed = parts .0
 
-  pub ok-versions : VersionsShape timestamp (stamps rc) (held-in bc)
-  ok-versions = versions-say timestamp (stamps rc) (held-in bc) .0 (parts .1)
+  pub ok-versions : VersionsShape timestamp (stamps rc) (block-versions bc)
+  ok-versions = versions-say timestamp (stamps rc) (block-versions bc) .0 (parts .1)
 
 -- ---- parse after print
 
@@ -63,18 +63,18 @@ small-versions zero cs h = tt
 small-versions (suc k) cs h = (toZ-fits _ (getD cs 1 0) (fit (h 1)), h 0, small-versions k (drop 2 cs) (below-drop (2 ^ 64) 2 cs h))
 
 -- what a block's cells say, they can hold
-pub small-held : (bc : List ℕ) → Below (2 ^ 64) bc → Small (held-in bc)
-unfolding held-in
-small-held bc h = small-versions (getD bc 0 0) (drop 1 bc) (below-drop (2 ^ 64) 1 bc h)
+pub small-block-versions : (bc : List ℕ) → Below (2 ^ 64) bc → Small (block-versions bc)
+unfolding block-versions
+small-block-versions bc h = small-versions (getD bc 0 0) (drop 1 bc) (below-drop (2 ^ 64) 1 bc h)
 
 versions-flat : (vs : List Version) (ts : List ℕ) → Small vs → versions-in (length vs) (flat vs ++ ts) ≡ vs
 unfolding versions-in flat
 versions-flat [] ts h = refl
 versions-flat (v ∷ vs) ts h = rw (toZ-ofZ (h .0), versions-flat vs ts (h .2))
 
-pub held-block : (n : ℕ) (vs : List Version) → Small vs → held-in (block n vs) ≡ vs
-unfolding held-in block
-held-block n vs h = versions-flat vs (replicate (2 * (suc n - length vs)) 0) h
+pub versions-of-block : (n : ℕ) (vs : List Version) → Small vs → block-versions (block n vs) ≡ vs
+unfolding block-versions block
+versions-of-block n vs h = versions-flat vs (replicate (2 * (suc n - length vs)) 0) h
 
 pub length-block : (n : ℕ) (vs : List Version) → length vs ≤ suc n → length (block n vs) ≡ width n
 unfolding block
@@ -97,8 +97,8 @@ below-block n vs h l (suc i) =
     below-flat vs (replicate (2 * (suc n - length vs)) 0) h (below-zeros (2 ^ 64) (2 * (suc n - length vs)) (omega arith)) i
 
 -- what a block says after a call that ensures its bytes outright
-pub parsed : (n : ℕ) (vs : List Version) (ys : List ℕ) → Small vs → length vs < 2 ^ 64 → ys ≡ uncells (block n vs) → held-in (cells ys) ≡ vs
-parsed n vs ys h l e = ap held-in (ap cells e ∙ cells-uncells (block n vs) (below-block n vs h l)) ∙ held-block n vs h
+pub parsed : (n : ℕ) (vs : List Version) (ys : List ℕ) → Small vs → length vs < 2 ^ 64 → ys ≡ uncells (block n vs) → block-versions (cells ys) ≡ vs
+parsed n vs ys h l e = ap block-versions (ap cells e ∙ cells-uncells (block n vs) (below-block n vs h l)) ∙ versions-of-block n vs h
 
 -- ---- the check on a printed block
 
@@ -118,7 +118,7 @@ framed-block n vs l = rw (count-block n vs, unused-block n vs, zeros-replicate (
 
 pub ok-block : (n timestamp : ℕ) (rc : List ℕ) (vs : List Version) → Small vs → length vs ≤ suc n → block-ok n timestamp rc (block n vs) ≡ versions-shaped timestamp (stamps rc) vs
 unfolding block-ok
-ok-block n timestamp rc vs h l = rw (held-block n vs h, framed-block n vs l)
+ok-block n timestamp rc vs h l = rw (versions-of-block n vs h, framed-block n vs l)
 
 -- ---- print after parse
 
@@ -137,13 +137,13 @@ length-versions zero cs = refl
 length-versions (suc k) cs = ap suc (length-versions k (drop 2 cs))
 
 -- the count says how many versions a block has
-pub length-held : (bc : List ℕ) → length (held-in bc) ≡ getD bc 0 0
-unfolding held-in
-length-held bc = length-versions (getD bc 0 0) (drop 1 bc)
+pub length-block-versions : (bc : List ℕ) → length (block-versions bc) ≡ getD bc 0 0
+unfolding block-versions
+length-block-versions bc = length-versions (getD bc 0 0) (drop 1 bc)
 
-pub block-held : (n : ℕ) (bc : List ℕ) → length bc ≡ width n → Below (2 ^ 64) bc → framed n bc ≡ true → block n (held-in bc) ≡ bc
-unfolding block held-in
-block-held n bc l b f =
+pub block-of-versions : (n : ℕ) (bc : List ℕ) → length bc ≡ width n → Below (2 ^ 64) bc → framed n bc ≡ true → block n (block-versions bc) ≡ bc
+unfolding block block-versions
+block-of-versions n bc l b f =
     let k : ℕ = getD bc 0 0 in
     let q : k ≤ n + 1 = count-few n bc f in
     let d : length (drop (1 + 2 * k) bc) ≡ 2 * (suc n - k) = length-drop (1 + 2 * k) bc ∙ omega arith in

@@ -7,7 +7,7 @@ ghost use lib.Dec.{ltb, leb};
 ghost use lib.ListN.{length, getD};
 ghost use Rattle.cells.specs.Cells.{cells};
 ghost use Rattle.model.specs.Replica.{as-of};
-ghost use Rattle.versions.specs.Block.{width as block-width, held-in, between};
+ghost use Rattle.versions.specs.Block.{width as block-width, block-versions, between};
 
 // The cells of a block: a count, and a stamp and a value for one version more than there are readers.
 pub fn width(readers: usize) -> usize
@@ -43,7 +43,7 @@ pub fn some_between(snapshots: &[u8], readers: usize, s: u64, upper: u64) -> boo
 // the cell of the next one's stamp; 0 where all are above, which no block that passed the shape check has.
 pub fn lookup(block: &[u8], stamp: u64) -> i64
     requires { ⌜ (1 + 2 * getD (cells (now block)) 0 0) * 8 ≤ length (now block) ⌝ }
-    ensures { λ r. ⌜ r ≡ as-of stamp (held-in (cells (now (block .entry)))) .value ⌝ }
+    ensures { λ r. ⌜ r ≡ as-of stamp (block-versions (cells (now (block .entry)))) .value ⌝ }
 {
     let mut left = cells::get(block, 0) as usize;
     let mut k = 1;

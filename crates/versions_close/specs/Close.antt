@@ -18,23 +18,23 @@ use Rattle.model.specs.Serial.{Version}
 use Rattle.model.specs.Replica.{prune}
 use Rattle.model.specs.Shape.{falling}
 use Rattle.model.specs.ShapeCheck.{versions-shaped}
-use Rattle.versions.specs.Block.{width, version-of, versions-in, held-in, stamps, block, block-ok, framed, lowest, chain, trim}
+use Rattle.versions.specs.Block.{width, version-of, versions-in, block-versions, stamps, block, block-ok, framed, lowest, chain, trim}
 use Rattle.versions.specs.OnePass.{le-or-lt, lowest-le, falls, falling-falls, prune-trim, versions-chain}
 use Rattle.versions.specs.BlockLoops.{versions-step}
-use Rattle.versions.specs.Round.{count-few, unused-zero, ok-framed, ok-versions, block-held, length-held}
+use Rattle.versions.specs.Round.{count-few, unused-zero, ok-framed, ok-versions, block-of-versions, length-block-versions}
 use Rattle.versions_close.specs.Closing.{seen, less-one, Checked, Beside, pruned-block}
-use Rattle.versions_close.specs.Seen.{First, stamp-at, without, first-in, stamp-cells, held-cells, trim-all, trim-one, seen-step, seen-first}
+use Rattle.versions_close.specs.Seen.{First, stamp-at, without, first-in, stamp-cells, block-stamp, trim-all, trim-one, seen-step, seen-first}
 use Rattle.versions_close.specs.Dropped.{less-block}
 
 -- what the check says of one block, whatever readers have opened or closed since
 record Ordered (n : ℕ) (bc : List ℕ) : Type 0 where
   least : 0 < getD bc 0 0
   frame : framed n bc ≡ true
-  order : falling (held-in bc) ≡ true
+  order : falling (block-versions bc) ≡ true
 
 ok-ordered : (n timestamp : ℕ) (rc bc : List ℕ) → block-ok n timestamp rc bc ≡ true → Ordered n bc
 ok-ordered n timestamp rc bc ok = record {
-  least = rw length-held at (ok-versions n timestamp rc bc ok .least);
+  least = rw length-block-versions at (ok-versions n timestamp rc bc ok .least);
   frame = ok-framed n timestamp rc bc ok;
   order = ok-versions n timestamp rc bc ok .order;
 }
@@ -70,8 +70,8 @@ module _ {n c p q : ℕ} {rc xs : List ℕ} (g : Case n c p q rc xs) where
   o : Ordered n (cells xs)
   o = ok-ordered n (k .timestamp) (c ∷ rc) (cells xs) (k .ok)
 
-  cut : held-in (cells xs) ≡ w ∷ vs
-  unfolding held-in w vs
+  cut : block-versions (cells xs) ≡ w ∷ vs
+  unfolding block-versions w vs
   cut = versions-step (getD (cells xs) 0 0) 1 (cells xs) (o .least)
 
   fall : falls (w .stamp) vs ≡ true
@@ -81,16 +81,16 @@ module _ {n c p q : ℕ} {rc xs : List ℕ} (g : Case n c p q rc xs) where
   unfolding block-ok low
   rules =
       both (leb (w .stamp) (k .timestamp)) (chain (c ∷ rc) (lowest (suc (k .timestamp)) (c ∷ rc)) (w .stamp) vs)
-      (sym (versions-chain (k .timestamp) (c ∷ rc) w vs) ∙ ap (versions-shaped (k .timestamp) (stamps (c ∷ rc))) (sym cut) ∙ both (framed n (cells xs)) (versions-shaped (k .timestamp) (stamps (c ∷ rc)) (held-in (cells xs))) (k .ok) .1)
+      (sym (versions-chain (k .timestamp) (c ∷ rc) w vs) ∙ ap (versions-shaped (k .timestamp) (stamps (c ∷ rc))) (sym cut) ∙ both (framed n (cells xs)) (versions-shaped (k .timestamp) (stamps (c ∷ rc)) (block-versions (cells xs))) (k .ok) .1)
 
-  pruned-is : (us : List Version) → trim rc (w .stamp) vs ≡ us → prune (stamps rc) (held-in (cells xs)) ≡ w ∷ us
+  pruned-is : (us : List Version) → trim rc (w .stamp) vs ≡ us → prune (stamps rc) (block-versions (cells xs)) ≡ w ∷ us
   pruned-is us e = ap (prune (stamps rc)) cut ∙ prune-trim rc w vs fall ∙ ap (λ (l : List Version). w ∷ l) e
 
   same : trim rc (w .stamp) vs ≡ vs → xs ≡ pruned-block n rc xs
   same e =
       sym
       (ap (λ (l : List Version). uncells (block n l)) (pruned-is vs e ∙ sym cut)
-      ∙ ap uncells (block-held n (cells xs) (length-cells-whole (width n) xs (g .size)) (cells-below xs (g .bytes)) (o .frame))
+      ∙ ap uncells (block-of-versions n (cells xs) (length-cells-whole (width n) xs (g .size)) (cells-below xs (g .bytes)) (o .frame))
       ∙ uncells-cells xs (width n) (g .bytes) (g .size))
 
   -- c saw the newest
@@ -132,7 +132,7 @@ module _ {n c p q : ℕ} {rc xs : List ℕ} (g : Case n c p q rc xs) where
         seen-first c rc low (g .beside .some) lowest-is (n - 1) m (drop 3 (cells xs)) (getD (cells xs) 1 0) fall (rules .1) top behind (omega (arith, older, few))
 
     length-vs : suc (length vs) ≡ getD (cells xs) 0 0
-    length-vs = ap length (sym cut) ∙ length-held (cells xs)
+    length-vs = ap length (sym cut) ∙ length-block-versions (cells xs)
 
     module _ (j : ℕ) (ej : j ≡ seen c n (drop 1 (cells xs))) where
       is : j ≡ suc j′
@@ -153,7 +153,7 @@ module _ {n c p q : ℕ} {rc xs : List ℕ} (g : Case n c p q rc xs) where
           let a : 3 + 2 * j′ ≡ 1 + 2 * j = omega arith in
           let d : 1 + 2 * j′ ≡ 2 * j - 1 = omega arith in
           let at-s : stamp-at vs j′ ≡ s = stamp-cells (m - 1) j′ (drop 3 (cells xs)) (omega arith) ∙ getD-drop 3 (cells xs) (2 * j′) 0 ∙ ap (λ (i : ℕ). getD (cells xs) i 0) a ∙ sym es in
-          let at-u : stamp-at (w ∷ vs) j′ ≡ u = ap (λ (l : List Version). stamp-at l j′) (sym cut) ∙ held-cells (cells xs) j′ (omega arith) ∙ ap (λ (i : ℕ). getD (cells xs) i 0) d ∙ sym eu in
+          let at-u : stamp-at (w ∷ vs) j′ ≡ u = ap (λ (l : List Version). stamp-at l j′) (sym cut) ∙ block-stamp (cells xs) j′ (omega arith) ∙ ap (λ (i : ℕ). getD (cells xs) i 0) d ∙ sym eu in
           trim-one c rc low p q (g .beside) w vs j′ fall (rules .1) top (omega (arith, k .few, leb-true (w .stamp) (k .timestamp) (rules .0))) first
           ∙ ap₂ (λ (s u : ℕ). cond (leb p s && ltb u q) (without j′ vs) vs) at-s at-u
 
@@ -168,6 +168,6 @@ module _ {n c p q : ℕ} {rc xs : List ℕ} (g : Case n c p q rc xs) where
       unfolding without
       close-out s u es eu a d ys ey =
           let h = inside in
-          let out : prune (stamps rc) (held-in (cells xs)) ≡ without j (held-in (cells xs)) = pruned-is (without j′ vs) (one s u es eu ∙ rw (le-leb p s a, lt-ltb u q d)) ∙ sym (ap₂ without is cut) in
-          let printed : block n (held-in (cells xs)) ≡ cells xs = block-held n (cells xs) (length-cells-whole (width n) xs (g .size)) (cells-below xs (g .bytes)) (o .frame) in
-          ey ∙ ap uncells (ap (less-one n j) (sym printed) ∙ less-block n j (held-in (cells xs)) (omega (arith, length-held (cells xs))) (omega (arith, length-held (cells xs), few)) ∙ ap (block n) (sym out))
+          let out : prune (stamps rc) (block-versions (cells xs)) ≡ without j (block-versions (cells xs)) = pruned-is (without j′ vs) (one s u es eu ∙ rw (le-leb p s a, lt-ltb u q d)) ∙ sym (ap₂ without is cut) in
+          let printed : block n (block-versions (cells xs)) ≡ cells xs = block-of-versions n (cells xs) (length-cells-whole (width n) xs (g .size)) (cells-below xs (g .bytes)) (o .frame) in
+          ey ∙ ap uncells (ap (less-one n j) (sym printed) ∙ less-block n j (block-versions (cells xs)) (omega (arith, length-block-versions (cells xs))) (omega (arith, length-block-versions (cells xs), few)) ∙ ap (block n) (sym out))

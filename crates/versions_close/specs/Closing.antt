@@ -8,7 +8,7 @@ use lib.Dec.{leb, ltb}
 use lib.ListN.{length, getD, take, drop}
 use Rattle.cells.specs.Cells.{cells, uncells}
 use Rattle.model.specs.Replica.{prune}
-use Rattle.versions.specs.Block.{width, held-in, stamps, block, laid, objects-in, block-ok, between}
+use Rattle.versions.specs.Block.{width, block-versions, stamps, block, laid, objects-in, block-ok, between}
 
 -- how many of n stamps, each in the first of two cells, are c or more
 unfoldable pub seen : ℕ → ℕ → List ℕ → ℕ
@@ -40,7 +40,7 @@ pub record Closable (n c p q : ℕ) (bs : List ℕ) : Type 0 where
 
 -- the bytes of one object, and of m objects, without the versions that no reader of rc holds
 abbrev pub pruned-block : ℕ → List ℕ → List ℕ → List ℕ
-pruned-block n rc bs = uncells (block n (prune (stamps rc) (held-in (cells bs))))
+pruned-block n rc bs = uncells (block n (prune (stamps rc) (block-versions (cells bs))))
 
 abbrev pub pruned : ℕ → List ℕ → ℕ → List ℕ → List ℕ
 pruned n rc m bs = uncells (laid n (map (prune (stamps rc)) (objects-in n m (cells bs))))

@@ -10,7 +10,7 @@ use Rattle.cells.specs.CellLaws.{cells-take, cells-drop}
 use Rattle.cells.specs.Uncells.{uncells-append}
 use Rattle.model.specs.ListLaws.{All}
 use Rattle.model.specs.Replica.{prune}
-use Rattle.versions.specs.Block.{width, held-in, stamps, block, laid, chunks, objects-in}
+use Rattle.versions.specs.Block.{width, block-versions, stamps, block, laid, chunks, objects-in}
 use Rattle.versions_close.specs.Closing.{Checked, pruned-block, pruned}
 
 -- what holds of each block holds of the first and of those behind it
@@ -33,7 +33,7 @@ pruned-step n rc zero xs h = absurd (omega arith)
 pruned-step n rc (suc m) xs h =
     let b : suc m - 1 ≡ m = omega arith in
     rw (b, cells-take (width n) xs, cells-drop (width n) xs)
-    (uncells-append (block n (prune (stamps rc) (held-in (take (width n) (cells xs))))) (laid n (map (prune (stamps rc)) (map held-in (chunks (width n) m (drop (width n) (cells xs)))))))
+    (uncells-append (block n (prune (stamps rc) (block-versions (take (width n) (cells xs))))) (laid n (map (prune (stamps rc)) (map block-versions (chunks (width n) m (drop (width n) (cells xs)))))))
 
 module _ (n c : ℕ) (rc xs ys : List ℕ) (at left : ℕ) (target : List ℕ) (p : Pruning n c rc xs ys at left target) (h : 0 < left) where
   step : Checked n c rc (cells (take (width n * 8) (drop at xs))) × All (Checked n c rc) (chunks (width n) (left - 1) (cells (drop (width n * 8) (drop at xs))))

@@ -15,7 +15,7 @@ use Rattle.execution.specs.ReadAgreement.{both}
 use Rattle.cells.specs.Zeros.{zeros}
 use Rattle.model.specs.Lists.{any}
 use Rattle.model.specs.Serial.{Version}
-use Rattle.versions.specs.Block.{versions-in, held-in, between, chain, trim}
+use Rattle.versions.specs.Block.{versions-in, block-versions, between, chain, trim}
 use Rattle.versions.specs.OnePass.{le-or-lt, falls}
 use Rattle.versions_close.specs.Closing.{seen, Beside}
 
@@ -82,9 +82,9 @@ stamp-cells (suc k) (suc j) cs h =
     let e : 2 + 2 * j ≡ 2 * suc j = omega arith in
     stamp-cells k j (drop 2 cs) (omega arith) ∙ getD-drop 2 cs (2 * j) 0 ∙ ap (λ (i : ℕ). getD cs i 0) e
 
-pub held-cells : (bc : List ℕ) (i : ℕ) → i < getD bc 0 0 → stamp-at (held-in bc) i ≡ getD bc (1 + 2 * i) 0
-unfolding held-in
-held-cells bc i h = stamp-cells (getD bc 0 0) i (drop 1 bc) h ∙ getD-drop 1 bc (2 * i) 0
+pub block-stamp : (bc : List ℕ) (i : ℕ) → i < getD bc 0 0 → stamp-at (block-versions bc) i ≡ getD bc (1 + 2 * i) 0
+unfolding block-versions
+block-stamp bc i h = stamp-cells (getD bc 0 0) i (drop 1 bc) h ∙ getD-drop 1 bc (2 * i) 0
 
 -- readers on either side of c
 sides : (rc : List ℕ) (s c u : ℕ) → s < c → c ≤ u → between rc s u ≡ between rc s c || between rc c u

@@ -1,4 +1,4 @@
--- A block rewritten: the kept cells are those of the versions that pruning keeps, and they have room. Assumes nothing.
+-- A block rewritten: the cells left are those of the versions that pruning leaves, and they have room. Assumes nothing.
 use mathlib.Core.Path.{_≡_, refl, sym, ap, _∙_}
 use mathlib.Core.Bool.{Bool, true, false, cond}
 use mathlib.Core.Option.{some}
@@ -20,21 +20,21 @@ use Rattle.model.specs.Replica.{prune, pushed}
 use Rattle.model.specs.Shape.{falling, VersionsShape}
 use Rattle.model.specs.Held.{few, commit-shape}
 use Rattle.model.specs.Tests.{all-weaker}
-use Rattle.versions.specs.Block.{width, version-of, versions-in, stamps, held-in, flat, block, between, trim, block-ok}
-use Rattle.versions_push.specs.Kept.{kept, filled}
+use Rattle.versions.specs.Block.{width, version-of, versions-in, stamps, block-versions, flat, block, between, trim, block-ok}
+use Rattle.versions_push.specs.Trimmed.{trim-cells, filled}
 use Rattle.versions.specs.OnePass.{falling-falls, prune-trim}
 use Rattle.versions.specs.Round.{fit, length-flat, ok-versions}
 
--- ---- the kept cells are those of the kept versions
+-- ---- the cells left are those of the versions held
 
-flat-kept : (rc : List ℕ) (k upper : ℕ) (cs : List ℕ) → Below (2 ^ 64) cs → flat (trim rc upper (versions-in k cs)) ≡ kept rc upper k cs
-unfolding flat trim versions-in kept
-flat-kept rc zero upper cs h = refl
-flat-kept rc (suc k) upper cs h = go′ (between rc (getD cs 0 0) upper) (flat-kept rc k (getD cs 0 0) (drop 2 cs) (below-drop (2 ^ 64) 2 cs h))
+flat-trim : (rc : List ℕ) (k upper : ℕ) (cs : List ℕ) → Below (2 ^ 64) cs → flat (trim rc upper (versions-in k cs)) ≡ trim-cells rc upper k cs
+unfolding flat trim versions-in trim-cells
+flat-trim rc zero upper cs h = refl
+flat-trim rc (suc k) upper cs h = go′ (between rc (getD cs 0 0) upper) (flat-trim rc k (getD cs 0 0) (drop 2 cs) (below-drop (2 ^ 64) 2 cs h))
   where
-    go′ : (b : Bool) → flat (trim rc (getD cs 0 0) (versions-in k (drop 2 cs))) ≡ kept rc (getD cs 0 0) k (drop 2 cs)
+    go′ : (b : Bool) → flat (trim rc (getD cs 0 0) (versions-in k (drop 2 cs))) ≡ trim-cells rc (getD cs 0 0) k (drop 2 cs)
         → flat (cond b (version-of (getD cs 0 0) (getD cs 1 0) ∷ trim rc (getD cs 0 0) (versions-in k (drop 2 cs))) (trim rc (getD cs 0 0) (versions-in k (drop 2 cs))))
-        ≡ cond b (getD cs 0 0 ∷ getD cs 1 0 ∷ kept rc (getD cs 0 0) k (drop 2 cs)) (kept rc (getD cs 0 0) k (drop 2 cs))
+        ≡ cond b (getD cs 0 0 ∷ getD cs 1 0 ∷ trim-cells rc (getD cs 0 0) k (drop 2 cs)) (trim-cells rc (getD cs 0 0) k (drop 2 cs))
     go′ true i = rw (i, ofZ-toZ (fit (h 1)))
     go′ false i = i
 
@@ -57,35 +57,35 @@ module _ (n timestamp : ℕ) (z : ℤ) (rc bc : List ℕ) (b : Below (2 ^ 64) bc
   new : Version
   new = record { stamp = t; value = z }
 
-  after : VersionsShape t (stamps rc) (prune (stamps rc) (new ∷ held-in bc))
+  after : VersionsShape t (stamps rc) (prune (stamps rc) (new ∷ block-versions bc))
   unfolding new
-  after = rw h (commit-shape timestamp (stamps rc) (held-in bc) (some z) (ok-versions n timestamp rc bc ok))
+  after = rw h (commit-shape timestamp (stamps rc) (block-versions bc) (some z) (ok-versions n timestamp rc bc ok))
 
-  order : falling (new ∷ held-in bc) ≡ true
+  order : falling (new ∷ block-versions bc) ≡ true
   unfolding new
   order =
       let was = ok-versions n timestamp rc bc ok in
-      rw (all-weaker (λ v. leb (v .stamp) timestamp) (λ v. ltb (v .stamp) t) (held-in bc) (λ v e. lt-ltb (v .stamp) t (let l = leb-true (v .stamp) timestamp e in omega arith)) (was .bound))
+      rw (all-weaker (λ v. leb (v .stamp) timestamp) (λ v. ltb (v .stamp) t) (block-versions bc) (λ v e. lt-ltb (v .stamp) t (let l = leb-true (v .stamp) timestamp e in omega arith)) (was .bound))
       (was .order)
 
-  trimmed : prune (stamps rc) (new ∷ held-in bc) ≡ new ∷ trim rc t (held-in bc)
+  trimmed : prune (stamps rc) (new ∷ block-versions bc) ≡ new ∷ trim rc t (block-versions bc)
   unfolding new
-  trimmed = prune-trim rc new (held-in bc) (sym (falling-falls new (held-in bc)) ∙ order)
+  trimmed = prune-trim rc new (block-versions bc) (sym (falling-falls new (block-versions bc)) ∙ order)
 
-  same : flat (prune (stamps rc) (new ∷ held-in bc)) ≡ t ∷ ofZ w64 z ∷ kept rc t (getD bc 0 0) (drop 1 bc)
-  unfolding new flat held-in
-  same = ap flat trimmed ∙ rw (flat-kept rc (getD bc 0 0) t (drop 1 bc) (below-drop (2 ^ 64) 1 bc b))
+  same : flat (prune (stamps rc) (new ∷ block-versions bc)) ≡ t ∷ ofZ w64 z ∷ trim-cells rc t (getD bc 0 0) (drop 1 bc)
+  unfolding new flat block-versions
+  same = ap flat trimmed ∙ rw (flat-trim rc (getD bc 0 0) t (drop 1 bc) (below-drop (2 ^ 64) 1 bc b))
 
-  push-filled : filled n (t ∷ ofZ w64 z ∷ kept rc t (getD bc 0 0) (drop 1 bc)) ≡ block n (prune (stamps rc) (pushed t (held-in bc) (some z)))
+  push-filled : filled n (t ∷ ofZ w64 z ∷ trim-cells rc t (getD bc 0 0) (drop 1 bc)) ≡ block n (prune (stamps rc) (pushed t (block-versions bc) (some z)))
   unfolding new
-  push-filled = ap (filled n) (sym same) ∙ sym (block-filled n (prune (stamps rc) (new ∷ held-in bc)))
+  push-filled = ap (filled n) (sym same) ∙ sym (block-filled n (prune (stamps rc) (new ∷ block-versions bc)))
 
-  pub push-done : (k v : ℕ) → k ≡ getD bc 0 0 → v ≡ ofZ w64 z → filled n (t ∷ v ∷ kept rc t k (drop 1 bc)) ≡ block n (prune (stamps rc) (pushed t (held-in bc) (some z)))
+  pub push-done : (k v : ℕ) → k ≡ getD bc 0 0 → v ≡ ofZ w64 z → filled n (t ∷ v ∷ trim-cells rc t k (drop 1 bc)) ≡ block n (prune (stamps rc) (pushed t (block-versions bc) (some z)))
   push-done k v ek ev = rw (ek, ev) push-filled
 
-  pub push-room : length rc ≡ n → length (kept rc t (getD bc 0 0) (drop 1 bc)) ≤ 2 * n
+  pub push-room : length rc ≡ n → length (trim-cells rc t (getD bc 0 0) (drop 1 bc)) ≤ 2 * n
   push-room e =
-      omega (arith, few t (stamps rc) (prune (stamps rc) (new ∷ held-in bc)) after, length-stamps rc, length-flat (prune (stamps rc) (new ∷ held-in bc)), ap length same)
+      omega (arith, few t (stamps rc) (prune (stamps rc) (new ∷ block-versions bc)) after, length-stamps rc, length-flat (prune (stamps rc) (new ∷ block-versions bc)), ap length same)
 
 -- ---- the end of a rebuild: zeros behind, the count in front
 

@@ -4,7 +4,7 @@ ghost use Prim.Native.Nat.{_+_, _*_, _≤_};
 ghost use mathlib.Core.Path.{_≡_};
 ghost use lib.ListN.{length};
 ghost use Rattle.cells.specs.Cells.{cells};
-ghost use Rattle.versions_push.specs.Kept.{Room, Pair, Kept, Pushable, rebuilt-block, pushed-block};
+ghost use Rattle.versions_push.specs.Trimmed.{Room, Pair, Trimmed, Pushable, rebuilt-block, pushed-block};
 
 // Puts one version, stamp s and value v, into the cells j and j + 1.
 fn put_pair(block: &mut [u8], j: usize, s: u64, v: u64)
@@ -27,7 +27,7 @@ fn keep_held(
     value: u64,
 ) -> usize
     requires { ⌜ Room readers start count stamp (now snapshots) (now block) ⌝ }
-    ensures { λ r. ⌜ Kept (cells (now (snapshots .entry))) stamp value start count (now (block .entry)) (now (block .exit)) r ⌝ }
+    ensures { λ r. ⌜ Trimmed (cells (now (snapshots .entry))) stamp value start count (now (block .entry)) (now (block .exit)) r ⌝ }
 {
     let mut upper = stamp;
     let mut s = stamp;

@@ -5,7 +5,7 @@ use borrow.Author.Needs.{needs}
 use Rattle.arith.specs.IntegerLaws.{read-back}
 use Rattle.execution.specs.Run.{table-of}
 use Rattle.execution.specs.Arrays.{room-set}
-use Rattle.execution_effects.specs.OneOperation.{kept-advanced, load-own, load-read, load-new}
+use Rattle.execution_effects.specs.OneOperation.{bounded-advanced, load-own, load-read, load-new}
 use Rattle.execution_effects.proofs.load.Statement.{statement}
 use Rattle.execution_effects.proofs.load.Tie as tie
 
@@ -28,7 +28,7 @@ returns c =
     let p = s .pre in
     let f = c .before .before .before .before .find in (
       load-own (table-of (now (a .table))) (a .c) (now (a .registers)) (now (a .ro)) (now (a .rv)) (now (a .wo)) (now (a .wv)) (a .r) (a .o) (f .result) (f .ensures) (c .assign .result) (c .assign .last .0) (c .before .before .before .if1 .taken) (c .assign .ensures .0) (rw (read-back (c .before .assign-arg2 .given)) at (c .assign .ensures .1)),
-      (kept-advanced 0 (a .c) (c .assign .result) (c .assign .ensures .0) (p .0), p .4),
+      (bounded-advanced 0 (a .c) (c .assign .result) (c .assign .ensures .0) (p .0), p .4),
     )
 
 find-requires-2 : tie.Need-find-requires-2
@@ -51,7 +51,7 @@ returns-2 c =
     let f = c .before .before .before .before .before .before .before .find in
     let g = c .before .before .before .before .find2 in (
       load-read (table-of (now (a .table))) (a .c) (now (a .registers)) (now (a .ro)) (now (a .rv)) (now (a .wo)) (now (a .wv)) (a .r) (a .o) (f .result) (f .ensures) (c .before .before .before .before .before .before .if1 .left) (g .result) (g .ensures) (c .assign2 .result) (c .assign2 .last .0) (c .before .before .before .if2 .taken) (c .assign2 .ensures .0) (rw (read-back (c .before .assign-arg4 .given)) at (c .assign2 .ensures .1)),
-      (kept-advanced 0 (a .c) (c .assign2 .result) (c .assign2 .ensures .0) (p .0), p .4),
+      (bounded-advanced 0 (a .c) (c .assign2 .result) (c .assign2 .ensures .0) (p .0), p .4),
     )
 
 mul-value : tie.Need-mul-value

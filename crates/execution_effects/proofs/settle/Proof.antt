@@ -3,7 +3,7 @@ use denote.Ref.{now}
 use borrow.Author.Needs.{needs}
 use Rattle.arith.specs.IntegerLaws.{read-back}
 use Rattle.execution.specs.Run.{overflowed}
-use Rattle.execution_effects.specs.OneOperation.{kept-advanced, kept-stopped, went, halted}
+use Rattle.execution_effects.specs.OneOperation.{bounded-advanced, bounded-stopped, went, halted}
 use Rattle.execution_effects.proofs.settle.Statement.{statement}
 use Rattle.execution_effects.proofs.settle.Tie as tie
 
@@ -24,7 +24,7 @@ returns c =
     let s = c .before .before .before .before .before in
     let a = s .args in (
       λ T ro wo rv wv. rw (c .before .before .before .x .given .1, rw (read-back (c .before .before .known-told .given .0 .1)) at (c .assign .ensures .1)) (went T (a .c) (now (a .registers)) ro rv wo wv 0 (c .assign .result) _ (c .assign .ensures .0)),
-      kept-advanced 0 (a .c) (c .assign .result) (c .assign .ensures .0) (s .pre .0),
+      bounded-advanced 0 (a .c) (c .assign .result) (c .assign .ensures .0) (s .pre .0),
     )
 
 returns-2 : tie.Need-returns-2
@@ -32,7 +32,7 @@ returns-2 c =
     let s = c .before .before .before in
     let a = s .args in (
       λ T ro wo rv wv. rw (c .before .enum-told .given .1) (halted T (a .c) (now (a .registers)) ro rv wo wv overflowed (c .stop .result) (c .stop .ensures)),
-      kept-stopped 2 (a .c) (c .stop .result) (c .stop .ensures) (s .pre .0),
+      bounded-stopped 2 (a .c) (c .stop .result) (c .stop .ensures) (s .pre .0),
     )
 
 pub settle-spec : {M : Type 1} → statement M

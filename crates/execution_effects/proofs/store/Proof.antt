@@ -5,7 +5,7 @@ use borrow.Author.Needs.{needs}
 use Rattle.arith.specs.IntegerLaws.{read-back}
 use Rattle.execution.specs.Run.{register}
 use Rattle.execution.specs.Arrays.{room-set}
-use Rattle.execution_effects.specs.OneOperation.{kept-advanced, store-again, store-new}
+use Rattle.execution_effects.specs.OneOperation.{bounded-advanced, store-again, store-new}
 use Rattle.execution_effects.proofs.store.Statement.{statement}
 use Rattle.execution_effects.proofs.store.Tie as tie
 
@@ -42,7 +42,7 @@ returns c =
     let k = p .0 .writes in
     let h = p .1 in (
       λ T ro rv. rw (read-back (c .before .before .wv .given)) (store-again T (a .c) (now (a .registers)) ro rv (now (a .wo)) (now (a .wv)) (a .o) (f .result) (register (now (a .registers)) (a .r)) (f .ensures) (omega arith) (p .3) (c .advance .result) (c .before .if1 .taken) (c .advance .ensures)),
-      (kept-advanced 0 (a .c) (c .advance .result) (c .advance .ensures) (p .0), room-set (now (a .wo)) (now (a .wv)) (f .result) (a .o) _ (p .3)),
+      (bounded-advanced 0 (a .c) (c .advance .result) (c .advance .ensures) (p .0), room-set (now (a .wo)) (now (a .wv)) (f .result) (a .o) _ (p .3)),
     )
 
 add-t10 : tie.Need-add-t10

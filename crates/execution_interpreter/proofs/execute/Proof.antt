@@ -6,7 +6,7 @@ use denote.Ref.{now}
 use Rattle.operation.specs.Body.{size, operation-at, operations}
 use Rattle.operation.specs.BodyLaws.{Formed, formed, valid-at}
 use Rattle.execution.specs.Run.{Table, table-of, object-count, move, Run}
-use Rattle.execution.specs.Arrays.{capacity, run-held, Lent}
+use Rattle.execution.specs.Arrays.{capacity, run-of-arrays, Lent}
 use Rattle.execution_interpreter.specs.Executes.{Executes}
 use Rattle.execution_interpreter.specs.Budget.{Going, going, at-end, spent, next, rewritten, lent-rewritten, apply-outcome, ended-stopped, ended-size, due-here, valid-more}
 use Rattle.execution_interpreter.proofs.execute.Statement.{statement}
@@ -14,7 +14,7 @@ use Rattle.execution_interpreter.proofs.execute.Tie as tie
 
 abbrev Inv-loop : tie.InvT-loop
 Inv-loop table body registers₀ ro₀ rv₀ wo₀ wv₀ budget size t₀ used₀ registers ro rv wo wv t used =
-    Going (table-of table) (operations body) budget (run-held t₀ registers₀ ro₀ rv₀ wo₀ wv₀) used (run-held t registers ro rv wo wv) × (t .outcome ≡ 0) × Lent t ro rv wo wv
+    Going (table-of table) (operations body) budget (run-of-arrays t₀ registers₀ ro₀ rv₀ wo₀ wv₀) used (run-of-arrays t registers ro rv wo wv) × (t .outcome ≡ 0) × Lent t ro rv wo wv
 
 abbrev μ-loop : tie.MeasureT-loop
 μ-loop table body registers₀ ro₀ rv₀ wo₀ wv₀ budget size t₀ used₀ registers ro rv wo wv t used = budget - used
@@ -27,10 +27,10 @@ entry l = l .before .before .before
 abbrev first : tie.Start Inv-loop μ-loop → Run
 first s =
     let a = s .args in
-    run-held (a .from) (now (a .registers)) (now (a .ro)) (now (a .rv)) (now (a .wo)) (now (a .wv))
+    run-of-arrays (a .from) (now (a .registers)) (now (a .ro)) (now (a .rv)) (now (a .wo)) (now (a .wv))
 
 abbrev here : tie.At-loop Inv-loop μ-loop → Run
-here l = run-held (l .loop .t) (l .loop .registers) (l .loop .ro) (l .loop .rv) (l .loop .wo) (l .loop .wv)
+here l = run-of-arrays (l .loop .t) (l .loop .registers) (l .loop .ro) (l .loop .rv) (l .loop .wo) (l .loop .wv)
 
 abbrev table : tie.Start Inv-loop μ-loop → Table
 table s = table-of (now (s .args .table))
@@ -72,7 +72,7 @@ add-used c = omega arith
 abbrev then : tie.After-step Inv-loop μ-loop → Run
 then c =
     let x = c .step .last .1 .1 in
-    run-held (c .step .result) (x .0) (x .1 .0) (x .1 .1 .0) (x .1 .1 .1 .0) (x .1 .1 .1 .1 .0)
+    run-of-arrays (c .step .result) (x .0) (x .1 .0) (x .1 .1 .0) (x .1 .1 .1 .0) (x .1 .1 .1 .1 .0)
 
 -- after an operation the invariant holds but for the outcome, which is one of three
 after : (c : tie.After-step Inv-loop μ-loop) → (let l = c .before .before .before .before .before .before .before .before .before in let s = entry l in Going (table s) (operations (now (s .args .body))) (s .args .budget) (first s) (l .loop .used + 1) (then c)) × (c .step .result .outcome ≤ 2)

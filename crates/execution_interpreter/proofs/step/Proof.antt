@@ -7,7 +7,7 @@ use Rattle.arith.specs.IntegerLaws.{read-back}
 use Rattle.operation.specs.Body.{register-count, most-divisor}
 use Rattle.execution.specs.Run.{table-of, object-count, failed, register, move}
 use Rattle.execution.specs.Arrays.{capacity}
-use Rattle.execution_effects.specs.OneOperation.{kept-advanced, kept-stopped, settled-sum, went, halted}
+use Rattle.execution_effects.specs.OneOperation.{bounded-advanced, bounded-stopped, settled-sum, went, halted}
 use Rattle.execution_interpreter.proofs.step.Statement.{statement}
 use Rattle.execution_interpreter.proofs.step.Tie as tie
 
@@ -50,7 +50,7 @@ load-requires : tie.Need-load-requires
 load-requires c κs =
     let p = c .before .before .before .before .before .before .before .before .pre in
     let l = load-limits (c .before .before .before .before .before .before) in
-    (p .0 .kept, p .1 .0, l .0, l .1, p .0 .read-room)
+    (p .0 .bounded, p .1 .0, l .0, l .1, p .0 .read-room)
 
 enum-known-op-2 : tie.Need-enum-known-op-2
 enum-known-op-2 c = search needs
@@ -58,7 +58,7 @@ enum-known-op-2 c = search needs
 store-requires : tie.Need-store-requires
 store-requires c κs =
     let p = c .before .before .before .before .before .before .pre in
-    (p .0 .kept, p .1 .0, store-limits (c .before .before .before .before), p .0 .write-room)
+    (p .0 .bounded, p .1 .0, store-limits (c .before .before .before .before), p .0 .write-room)
 
 enum-known-op-3 : tie.Need-enum-known-op-3
 enum-known-op-3 c = search needs
@@ -85,7 +85,7 @@ add-requires : tie.Need-add-requires
 add-requires c κs = search needs
 
 settle-requires : tie.Need-settle-requires
-settle-requires c κs = let p = c .before .before .before .before .before .before .before .pre in (p .0 .kept, p .1 .0, add-limits (c .before .before .before .before .before) .0)
+settle-requires c κs = let p = c .before .before .before .before .before .before .before .pre in (p .0 .bounded, p .1 .0, add-limits (c .before .before .before .before .before) .0)
 
 enum-known-op-5 : tie.Need-enum-known-op-5
 enum-known-op-5 c = search needs
@@ -106,7 +106,7 @@ subtract-requires : tie.Need-subtract-requires
 subtract-requires c κs = search needs
 
 settle-requires-2 : tie.Need-settle-requires-2
-settle-requires-2 c κs = let p = c .before .before .before .before .before .before .before .pre in (p .0 .kept, p .1 .0, subtract-limits (c .before .before .before .before .before) .0)
+settle-requires-2 c κs = let p = c .before .before .before .before .before .before .before .pre in (p .0 .bounded, p .1 .0, subtract-limits (c .before .before .before .before .before) .0)
 
 enum-known-op-6 : tie.Need-enum-known-op-6
 enum-known-op-6 c = search needs
@@ -150,7 +150,7 @@ returns c =
     let told = c .before .before .before .before .before .before .before in
     let done = c .load .ensures in (
       rw (told .op .given .1) (done .0),
-      record { kept = done .1 .0; read-room = done .1 .1; write-room = told .before .before .pre .0 .write-room },
+      record { bounded = done .1 .0; read-room = done .1 .1; write-room = told .before .before .pre .0 .write-room },
     )
 
 returns-2 : tie.Need-returns-2
@@ -160,7 +160,7 @@ returns-2 c =
     let a = s .args in
     let p = s .pre in (
       rw (c .before .before .before .before .before .op2 .given .1) (c .store .ensures .0 (table-of (now (a .table))) (now (a .ro)) (now (a .rv))),
-      record { kept = c .store .ensures .1 .0; read-room = p .0 .read-room; write-room = c .store .ensures .1 .1 },
+      record { bounded = c .store .ensures .1 .0; read-room = p .0 .read-room; write-room = c .store .ensures .1 .1 },
     )
 
 returns-3 : tie.Need-returns-3
@@ -170,7 +170,7 @@ returns-3 c =
     let a = s .args in
     let p = s .pre in (
       rw (c .before .before .before .op3 .given .1, rw (read-back (c .before .before .known-told3 .given .1 .0 .1)) at (c .assign .ensures .1)) (went (table-of (now (a .table))) (a .c) (now (a .registers)) (now (a .ro)) (now (a .rv)) (now (a .wo)) (now (a .wv)) 0 (c .assign .result) _ (c .assign .ensures .0)),
-      record { kept = kept-advanced 0 (a .c) (c .assign .result) (c .assign .ensures .0) (p .0 .kept); read-room = p .0 .read-room; write-room = p .0 .write-room },
+      record { bounded = bounded-advanced 0 (a .c) (c .assign .result) (c .assign .ensures .0) (p .0 .bounded); read-room = p .0 .read-room; write-room = p .0 .write-room },
     )
 
 returns-4 : tie.Need-returns-4
@@ -182,7 +182,7 @@ returns-4 c =
     let p = s .pre in (
       rw (c .before .before .before .before .before .before .op4 .given .1)
           (rw (c .before .before .add .ensures, read-back {z = register (now (a .registers)) (x .0)} (c .before .before .before .before .add-arg .given), read-back {z = register (now (a .registers)) (x .1 .0)} (c .before .before .before .add-arg2 .given), settled-sum) at (c .settle .ensures .0 (table-of (now (a .table))) (now (a .ro)) (now (a .wo)) (now (a .rv)) (now (a .wv)))),
-      record { kept = c .settle .ensures .1; read-room = p .0 .read-room; write-room = p .0 .write-room },
+      record { bounded = c .settle .ensures .1; read-room = p .0 .read-room; write-room = p .0 .write-room },
     )
 
 returns-5 : tie.Need-returns-5
@@ -194,7 +194,7 @@ returns-5 c =
     let p = s .pre in (
       rw (c .before .before .before .before .before .before .op5 .given .1)
           (rw (c .before .before .subtract .ensures, read-back {z = register (now (a .registers)) (x .0)} (c .before .before .before .before .subtract-arg .given), read-back {z = register (now (a .registers)) (x .1 .0)} (c .before .before .before .subtract-arg2 .given), settled-sum) at (c .settle2 .ensures .0 (table-of (now (a .table))) (now (a .ro)) (now (a .wo)) (now (a .rv)) (now (a .wv)))),
-      record { kept = c .settle2 .ensures .1; read-room = p .0 .read-room; write-room = p .0 .write-room },
+      record { bounded = c .settle2 .ensures .1; read-room = p .0 .read-room; write-room = p .0 .write-room },
     )
 
 returns-6 : tie.Need-returns-6
@@ -204,7 +204,7 @@ returns-6 c =
     let a = s .args in
     let p = s .pre in (
       rw (c .before .before .before .before .op6 .given .1, rw (read-back (c .before .before .if12 .given)) at (c .before .if1 .taken)) (went (table-of (now (a .table))) (a .c) (now (a .registers)) (now (a .ro)) (now (a .rv)) (now (a .wo)) (now (a .wv)) _ (c .advance .result) (now (a .registers)) (c .advance .ensures)),
-      record { kept = kept-advanced _ (a .c) (c .advance .result) (c .advance .ensures) (p .0 .kept); read-room = p .0 .read-room; write-room = p .0 .write-room },
+      record { bounded = bounded-advanced _ (a .c) (c .advance .result) (c .advance .ensures) (p .0 .bounded); read-room = p .0 .read-room; write-room = p .0 .write-room },
     )
 
 returns-7 : tie.Need-returns-7
@@ -214,7 +214,7 @@ returns-7 c =
     let a = s .args in
     let p = s .pre in (
       rw (c .before .before .before .before .op6 .given .1, rw (read-back (c .before .before .if12 .given)) at (c .before .if1 .left)) (went (table-of (now (a .table))) (a .c) (now (a .registers)) (now (a .ro)) (now (a .rv)) (now (a .wo)) (now (a .wv)) 0 (c .advance2 .result) (now (a .registers)) (c .advance2 .ensures)),
-      record { kept = kept-advanced 0 (a .c) (c .advance2 .result) (c .advance2 .ensures) (p .0 .kept); read-room = p .0 .read-room; write-room = p .0 .write-room },
+      record { bounded = bounded-advanced 0 (a .c) (c .advance2 .result) (c .advance2 .ensures) (p .0 .bounded); read-room = p .0 .read-room; write-room = p .0 .write-room },
     )
 
 returns-8 : tie.Need-returns-8
@@ -224,7 +224,7 @@ returns-8 c =
     let a = s .args in
     let p = s .pre in (
       rw (c .before .enum-told .given .1) (halted (table-of (now (a .table))) (a .c) (now (a .registers)) (now (a .ro)) (now (a .rv)) (now (a .wo)) (now (a .wv)) failed (c .stop .result) (c .stop .ensures)),
-      record { kept = kept-stopped 1 (a .c) (c .stop .result) (c .stop .ensures) (p .0 .kept); read-room = p .0 .read-room; write-room = p .0 .write-room },
+      record { bounded = bounded-stopped 1 (a .c) (c .stop .result) (c .stop .ensures) (p .0 .bounded); read-room = p .0 .read-room; write-room = p .0 .write-room },
     )
 
 returns-9 : tie.Need-returns-9
@@ -234,7 +234,7 @@ returns-9 c =
     let a = s .args in
     let p = s .pre in (
       rw (c .before .before .before .before .before .op7 .given .1, rw (read-back (c .before .before .divide .ok), c .before .before .divide .ensures, read-back (c .before .before .before .divide-arg .given)) at (c .assign2 .ensures .1)) (went (table-of (now (a .table))) (a .c) (now (a .registers)) (now (a .ro)) (now (a .rv)) (now (a .wo)) (now (a .wv)) 0 (c .assign2 .result) _ (c .assign2 .ensures .0)),
-      record { kept = kept-advanced 0 (a .c) (c .assign2 .result) (c .assign2 .ensures .0) (p .0 .kept); read-room = p .0 .read-room; write-room = p .0 .write-room },
+      record { bounded = bounded-advanced 0 (a .c) (c .assign2 .result) (c .assign2 .ensures .0) (p .0 .bounded); read-room = p .0 .read-room; write-room = p .0 .write-room },
     )
 
 pub step-spec : {M : Type 1} → statement M

@@ -4,7 +4,7 @@ use native.Mathlib.Omega.{arith}
 use borrow.Author.Needs.{needs}
 use Rattle.layout.specs.Offsets.{row-at, body-at}
 use Rattle.layout.specs.Holds.{holds-long}
-use Rattle.final_delivery.specs.Decide.{decided-as, decide-there, body-begins, body-few, body-ends, lent-some, rerunning, decide-lying, decide-reads, writes-few, writes-inside, writes-loaded, decided-kept, decided-again}
+use Rattle.final_delivery.specs.Decide.{decided-as, decide-there, body-begins, body-few, body-ends, lent-some, rerunning, decide-lying, decide-reads, writes-few, writes-inside, writes-loaded, decided-validated, decided-again}
 use Rattle.final_delivery.proofs.decide.Statement.{statement}
 use Rattle.final_delivery.proofs.decide.Tie as tie
 
@@ -107,7 +107,7 @@ returns c =
     let loaded = c .before .load-entries .ensures .0 in
     record {
       decided = λ p. decided-as (c .decided .ensures)
-          (decided-kept (s .pre .0 .0) (s .pre .0 .1) p (row k) e (first (counted k)) refl (counted k .body-length .ensures) seen (c .before .before .before .before .before .if1 .taken) (writes-loaded (s .pre .0 .0) (s .pre .0 .1) p (row k) e refl _ _ loaded));
+          (decided-validated (s .pre .0 .0) (s .pre .0 .1) p (row k) e (first (counted k)) refl (counted k .body-length .ensures) seen (c .before .before .before .before .before .if1 .taken) (writes-loaded (s .pre .0 .0) (s .pre .0 .1) p (row k) e refl _ _ loaded));
     }
 
 -- ---- it is run again

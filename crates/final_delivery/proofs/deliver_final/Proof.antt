@@ -5,7 +5,7 @@ use Rattle.model.specs.Calls.{clients}
 use Rattle.layout.specs.Layout.{Areas}
 use Rattle.layout.specs.Contract.{met-by}
 use Rattle.final_delivery.specs.Commit.{Found}
-use Rattle.final_delivery.specs.Deliver.{Shaped, Fresh, Standing, shaped-held, shaped-long, no-client, is-spent, is-fresh, is-missing, is-standing, is-last, fit-found, final-answer}
+use Rattle.final_delivery.specs.Deliver.{Shaped, Fresh, Standing, shaped-holding, shaped-long, no-client, is-spent, is-fresh, is-missing, is-standing, is-last, fit-found, final-answer}
 use Rattle.final_delivery.proofs.deliver_final.Statement.{statement}
 use Rattle.final_delivery.proofs.deliver_final.Tie as tie
 
@@ -49,13 +49,13 @@ returns c = met-by (no-client (shaped (c .before .before)) (c .before .before .b
 
 is-spent-requires : tie.Need-is-spent-requires
 unfolding clients
-is-spent-requires c κs = let k = c .before .before .before in ((k .before .pre .0 .sane, omega arith), shaped-held (shaped k))
+is-spent-requires c κs = let k = c .before .before .before in ((k .before .pre .0 .sane, omega arith), shaped-holding (shaped k))
 
 returns-2 : tie.Need-returns-2
 returns-2 c = met-by (is-spent (shaped (c .before .before .before .before .before)) (c .before .before .before .if1 .left) (c .before .is-spent .ensures) (c .if2 .taken))
 
 locate-requires : tie.Need-locate-requires
-locate-requires c κs = let k = c .before .before .before .before .before .before in (k .before .pre .0 .sane, shaped-held (shaped k))
+locate-requires c κs = let k = c .before .before .before .before .before .before in (k .before .pre .0 .sane, shaped-holding (shaped k))
 
 returns-3 : tie.Need-returns-3
 returns-3 c =

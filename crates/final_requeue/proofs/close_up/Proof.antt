@@ -8,18 +8,18 @@ use Rattle.final_requeue.proofs.close_up.Statement.{statement}
 use Rattle.final_requeue.proofs.close_up.Tie as tie
 
 abbrev Inv-loop : tie.InvT-loop
-Inv-loop records₀ bodies₀ l count client sequence kept₀ i₀ records bodies kept i =
-    (p : Counted l records₀ bodies₀ count) → Closing l records bodies (p .replica) client sequence count kept i
+Inv-loop records₀ bodies₀ l count client sequence kept₀ i₀ records bodies staying i =
+    (p : Counted l records₀ bodies₀ count) → Closing l records bodies (p .replica) client sequence count staying i
 
 abbrev μ-loop : tie.MeasureT-loop
-μ-loop records₀ bodies₀ l count client sequence kept₀ i₀ records bodies kept i = count - i
+μ-loop records₀ bodies₀ l count client sequence kept₀ i₀ records bodies staying i = count - i
 
 -- ---- waypoints
 
 abbrev start : tie.At-loop Inv-loop μ-loop → tie.Start Inv-loop μ-loop
 start k = k .before .before .before
 
-closing : (k : tie.At-loop Inv-loop μ-loop) → (let s = start k in Closing (s .args .l) (k .loop .records) (k .loop .bodies) (s .pre .1 .replica) (s .args .client) (s .args .sequence) (s .args .count) (k .loop .kept) (k .loop .i))
+closing : (k : tie.At-loop Inv-loop μ-loop) → (let s = start k in Closing (s .args .l) (k .loop .records) (k .loop .bodies) (s .pre .1 .replica) (s .args .client) (s .args .sequence) (s .args .count) (k .loop .staying) (k .loop .i))
 closing k = k .loop .inv (start k .pre .1)
 
 -- the next that leaves
@@ -50,8 +50,8 @@ move-run-requires c κs =
     let k = c .before .before .before .before .before in
     (start k .pre .0, closing-moving (closing k) (c .before .before .before .before .loop-test .taken) (c .before .before .next-leaving .ensures))
 
-add-kept : tie.Need-add-kept Inv-loop μ-loop
-add-kept c = let k = c .before .before .before .before .before .before .before .before .before .before in omega (arith, within (c .before .before .before .before .before .before .before), closing k .below)
+add-staying : tie.Need-add-staying Inv-loop μ-loop
+add-staying c = let k = c .before .before .before .before .before .before .before .before .before .before in omega (arith, within (c .before .before .before .before .before .before .before), closing k .below)
 
 add-i : tie.Need-add-i Inv-loop μ-loop
 add-i c = omega (arith, within (c .before .before .before .before .before .before .before), few (c .before .before .before .before .before .before .before .before .before .before))
@@ -89,7 +89,7 @@ close-up-spec =
     next-leaving-requires
     sub-n
     move-run-requires
-    add-kept
+    add-staying
     add-i
     loop-less
     loop-again

@@ -4,14 +4,14 @@ use Prim.Native.Nat.{_-_}
 use native.Mathlib.Omega.{arith}
 use lib.ListN.{length}
 use borrow.Author.Needs.{needs}
-use Rattle.layout.specs.Holds.{holds-long, Held}
+use Rattle.layout.specs.Holds.{holds-long, Holding}
 use Rattle.layout.specs.Reading.{count-read}
 use Rattle.final_walk.specs.RestartFrom.{Restarting, restart-start, restart-end, restart-length, row-there, restart-inside, restart-step}
 use Rattle.final_walk.proofs.restart_from.Statement.{statement}
 use Rattle.final_walk.proofs.restart_from.Tie as tie
 
 abbrev Inv-loop : tie.InvT-loop
-Inv-loop records₀ l pending first i₀ records i = (p : Held l records₀) → Restarting l records (p .replica) first pending i
+Inv-loop records₀ l pending first i₀ records i = (p : Holding l records₀) → Restarting l records (p .replica) first pending i
 
 abbrev μ-loop : tie.MeasureT-loop
 μ-loop records₀ l pending first i₀ records i = pending - i
@@ -21,7 +21,7 @@ abbrev μ-loop : tie.MeasureT-loop
 abbrev start : tie.After-get Inv-loop μ-loop → tie.Start Inv-loop μ-loop
 start k = k .before .before .before .before
 
-count : (k : tie.After-get Inv-loop μ-loop) (p : Held (start k .args .l) (start k .args .records .now)) → k .get .result ≡ length (p .replica .pending)
+count : (k : tie.After-get Inv-loop μ-loop) (p : Holding (start k .args .l) (start k .args .records .now)) → k .get .result ≡ length (p .replica .pending)
 count k p =
     let s = start k in
     let at-count = k .before .pending-at in

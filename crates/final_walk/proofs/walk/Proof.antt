@@ -1,11 +1,11 @@
 -- `final_walk::walk` meets its contract: from the first transaction that no longer matches on, all go back to their start.
 use borrow.Author.Needs.{needs}
-use Rattle.final_walk.specs.Walk.{walking-held, walk-done}
+use Rattle.final_walk.specs.Walk.{walking-holding, walk-done}
 use Rattle.final_walk.proofs.walk.Statement.{statement}
 use Rattle.final_walk.proofs.walk.Tie as tie
 
 restart-from-requires : tie.Need-restart-from-requires
-restart-from-requires c κs = let s = c .before .before .before .before .before in (s .pre .0, walking-held (s .pre .1))
+restart-from-requires c κs = let s = c .before .before .before .before .before in (s .pre .0, walking-holding (s .pre .1))
 
 returns : tie.Need-returns
 returns c = walk-done (c .before .before .before .before .first-stale .ensures) (c .before .before .restart-from .ensures)

@@ -28,17 +28,17 @@ areas s = (s .args .records .now, s .args .bodies .now)
 abbrev replica : tie.Start → Replica
 replica s = parse (s .args .l) (areas s)
 
-held : (c : tie.After-slice-known) → Holds (c .before .args .l) (c .before .args .records .now) (replica (c .before))
-held c =
+holding : (c : tie.After-slice-known) → Holds (c .before .args .l) (c .before .args .records .now) (replica (c .before))
+holding c =
     fit-holds (c .before .args .l) (c .before .pre .0 .sane) (areas (c .before)) (λ i. c .slice-known .given i .fits) (c .before .pre .1)
 
-held-bodies : (c : tie.After-slice-known) → HoldsBodies (c .before .args .l) (c .before .args .bodies .now) (replica (c .before))
-held-bodies c =
+bodies-holding : (c : tie.After-slice-known) → HoldsBodies (c .before .args .l) (c .before .args .bodies .now) (replica (c .before))
+bodies-holding c =
     fit-bodies (c .before .args .l) (c .before .pre .0 .sane) (areas (c .before)) (λ i. c .slice-known .given i .fits) (c .before .pre .1)
 
 area : (c : tie.After-slice-known) → length (c .before .args .records .now) ≡ record-length (c .before .args .l)
 area c =
-    holds-long (c .before .args .l) (c .before .pre .0 .sane) (c .before .args .records .now) (replica (c .before)) (held c)
+    holds-long (c .before .args .l) (c .before .pre .0 .sane) (c .before .args .records .now) (replica (c .before)) (holding c)
 
 -- ---- the entry, from each place on the way
 
@@ -79,18 +79,18 @@ abbrev is-spent : tie.Start → Bool
 is-spent s = spent (replica s .lasts) (s .args .client) (s .args .sequence)
 
 asked : (c : tie.After-is-spent) → c .is-spent .result ≡ is-spent (s₁ (c .before .before))
-asked c = let e = c .before .before in c .is-spent .ensures .test (replica (s₁ e)) (held (entry e))
+asked c = let e = c .before .before in c .is-spent .ensures .test (replica (s₁ e)) (holding (entry e))
 
 unspent : (c : tie.Else2) → is-spent (s₂ c) ≡ false
 unspent c = sym (asked (c .before)) ∙ c .if2 .left
 
 stands : (c : tie.After-locate) → c .locate .result .position .0 ≡ position (s₂ (c .before .before) .args .l) (areas (s₂ (c .before .before))) (s₂ (c .before .before) .pre .1) (s₂ (c .before .before) .args .client) (s₂ (c .before .before) .args .sequence)
 stands c =
-    let e = c .before .before in c .locate .ensures .position (replica (s₂ e)) (held (entry (e₁ e)))
+    let e = c .before .before in c .locate .ensures .position (replica (s₂ e)) (holding (entry (e₁ e)))
 
 counts : (c : tie.After-locate) → c .locate .result .count ≡ length (replica (s₂ (c .before .before)) .pending)
 counts c =
-    let e = c .before .before in c .locate .ensures .count (replica (s₂ e)) (held (entry (e₁ e)))
+    let e = c .before .before in c .locate .ensures .count (replica (s₂ e)) (holding (entry (e₁ e)))
 
 absent : (c : tie.Else3) → length (replica (s₃ c) .pending) ≤ position (s₃ c .args .l) (areas (s₃ c)) (s₃ c .pre .1) (s₃ c .args .client) (s₃ c .args .sequence)
 absent c = let p = located c in omega (arith, stands p, counts p)
@@ -99,7 +99,7 @@ objects : (c : tie.After-decode) → c .before .get .result ≡ length (replica 
 objects c =
     let s = s₄ c in
     let a = c .before .before .size-at in
-    size-read (s .args .l) (s .pre .0 .sane) (s .args .records .now) (replica s) (held (entry (e₁ (e₂ (e₃ c))))) (a .result) (c .before .get .result) (c .before .get .ensures) (a .ensures .exact)
+    size-read (s .args .l) (s .pre .0 .sane) (s .args .records .now) (replica s) (holding (entry (e₁ (e₂ (e₃ c))))) (a .result) (c .before .get .result) (c .before .get .ensures) (a .ensures .exact)
 
 well : (c : tie.After-enum-told) → is-well-formed (s₄ (c .before .before) .args .l .operations) (length (replica (s₄ (c .before .before)) .objects)) (s₄ (c .before .before) .args .body .now) ≡ true
 well c =
@@ -118,7 +118,7 @@ is-spent-requires : tie.Need-is-spent-requires
 is-spent-requires c κs =
     let e = c .before in
     let k = entry e in
-    ((k .before .pre .0 .sane, low e), record { replica = replica (k .before); holds = held k })
+    ((k .before .pre .0 .sane, low e), record { replica = replica (k .before); holds = holding k })
 
 same-length : tie.Need-same-length
 same-length c = search needs
@@ -131,7 +131,7 @@ returns-2 c =
 
 locate-requires : tie.Need-locate-requires
 locate-requires c κs =
-    let k = entry (e₁ (c .before)) in (k .before .pre .0 .sane, record { replica = replica (k .before); holds = held k })
+    let k = entry (e₁ (c .before)) in (k .before .pre .0 .sane, record { replica = replica (k .before); holds = holding k })
 
 cast-if3 : tie.Need-cast-if3
 cast-if3 c = search needs
@@ -196,7 +196,7 @@ append-requires c κs =
     let k = entry (e₁ (e₂ (e₃ d))) in
     let s = k .before in
     let b = formed (s .args .l .operations) (length (replica s .objects)) (s .args .body .now) (well t) in
-    (s .pre .0 .sane, record { records = area k; bodies = bodies-long (s .args .l) (s .pre .0 .sane) (s .args .bodies .now) (replica s) (held-bodies k); free = f .if4 .left; small = omega (arith, b .whole, b .most) })
+    (s .pre .0 .sane, record { records = area k; bodies = bodies-long (s .args .l) (s .pre .0 .sane) (s .args .bodies .now) (replica s) (bodies-holding k); free = f .if4 .left; small = omega (arith, b .whole, b .most) })
 
 same-length-5 : tie.Need-same-length-5
 same-length-5 c = search needs
@@ -214,7 +214,7 @@ returns-6 c =
     let k = entry (e₁ (e₂ e)) in
     let s = k .before in
     met-by (deliver-0 (s .args .l) (areas s) (s .pre .1) (s .args .client) (s .args .sequence) (s .args .body .now) (low (e₁ (e₂ e))) (unspent (e₂ e)) (absent e) (well t)
-    (omega (arith, counts (located e), f .if4 .left)) (s .pre .0 .sane) (omega arith) (held k) (held-bodies k) (located e .locate .result .count) (w .before .key-cell .result) (counts (located e)) (w .before .key-cell .ensures) (w .append .last .0) (w .append .last .1 .0) (w .append .ensures))
+    (omega (arith, counts (located e), f .if4 .left)) (s .pre .0 .sane) (omega arith) (holding k) (bodies-holding k) (located e .locate .result .count) (w .before .key-cell .result) (counts (located e)) (w .before .key-cell .ensures) (w .append .last .0) (w .append .last .1 .0) (w .append .ensures))
 
 pub deliver-optimistic-spec : {M : Type 1} → statement M
 deliver-optimistic-spec =

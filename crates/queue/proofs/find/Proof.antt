@@ -21,12 +21,12 @@ use Rattle.queue.proofs.find.Tie as tie
 abbrev areas : tie.Start → Areas
 areas c = (c .args .records .now, c .args .bodies .now)
 
-held : (c : tie.After-shared-slice-known) → Holds (c .before .args .l) (c .before .args .records .now) (parse (c .before .args .l) (areas (c .before)))
-held c =
+holding : (c : tie.After-shared-slice-known) → Holds (c .before .args .l) (c .before .args .records .now) (parse (c .before .args .l) (areas (c .before)))
+holding c =
     fit-holds (c .before .args .l) (c .before .pre .0 .sane) (areas (c .before)) (λ i. c .shared-slice-known .given i .fits) (c .before .pre .1)
 
-held-bodies : (c : tie.After-shared-slice-known) → HoldsBodies (c .before .args .l) (c .before .args .bodies .now) (parse (c .before .args .l) (areas (c .before)))
-held-bodies c =
+bodies-holding : (c : tie.After-shared-slice-known) → HoldsBodies (c .before .args .l) (c .before .args .bodies .now) (parse (c .before .args .l) (areas (c .before)))
+bodies-holding c =
     fit-bodies (c .before .args .l) (c .before .pre .0 .sane) (areas (c .before)) (λ i. c .shared-slice-known .given i .fits) (c .before .pre .1)
 
 -- Find changes nothing: its answer is all
@@ -45,14 +45,14 @@ returns c =
 locate-requires : tie.Need-locate-requires
 locate-requires c κs =
     let s = c .before .before in
-    (s .before .pre .0 .sane, record { replica = parse (s .before .args .l) (areas (s .before)); holds = held s })
+    (s .before .pre .0 .sane, record { replica = parse (s .before .args .l) (areas (s .before)); holds = holding s })
 
 -- where `locate` says that the transaction stands
 stands : (c : tie.After-locate) → c .locate .result .position .0 ≡ position (c .before .before .before .before .args .l) (areas (c .before .before .before .before)) (c .before .before .before .before .pre .1) (c .before .before .before .before .args .client) (c .before .before .before .before .args .sequence)
-stands c = c .locate .ensures .position (parse (c .before .before .before .before .args .l) (areas (c .before .before .before .before))) (held (c .before .before .before))
+stands c = c .locate .ensures .position (parse (c .before .before .before .before .args .l) (areas (c .before .before .before .before))) (holding (c .before .before .before))
 
 counts : (c : tie.After-locate) → c .locate .result .count ≡ length (parse (c .before .before .before .before .args .l) (areas (c .before .before .before .before)) .pending)
-counts c = c .locate .ensures .count (parse (c .before .before .before .before .args .l) (areas (c .before .before .before .before))) (held (c .before .before .before))
+counts c = c .locate .ensures .count (parse (c .before .before .before .before .args .l) (areas (c .before .before .before .before))) (holding (c .before .before .before))
 
 cast-i : tie.Need-cast-i
 cast-i c = search needs
@@ -76,7 +76,7 @@ low : (c : tie.Else2) → located c .locate .result .position .0 < start c .args
 low c =
     let p = located c in
     let s = start c in
-    omega (arith, counts p, few-pending (s .args .l) (parse (s .args .l) (areas s)) (held (p .before .before .before) .fits))
+    omega (arith, counts p, few-pending (s .args .l) (parse (s .args .l) (areas s)) (holding (p .before .before .before) .fits))
 
 body-at-requires : tie.Need-body-at-requires
 body-at-requires c κs = (start c .pre .0 .sane, omega (arith, low c))
@@ -86,7 +86,7 @@ shared-slice-read-small c =
     let b = c .before in
     let p = located (b .before) in
     let s = start (b .before) in
-    omega (arith, b .body-at .ensures .exact, bodies-long (s .args .l) (s .pre .0 .sane) (s .args .bodies .now) (parse (s .args .l) (areas s)) (held-bodies (p .before .before .before)), body-room (s .args .l) (p .locate .result .position .0) (low (b .before)))
+    omega (arith, b .body-at .ensures .exact, bodies-long (s .args .l) (s .pre .0 .sane) (s .args .bodies .now) (parse (s .args .l) (areas s)) (bodies-holding (p .before .before .before)), body-room (s .args .l) (p .locate .result .position .0) (low (b .before)))
 
 small-requires : tie.Need-small-requires
 small-requires c κs = search needs
@@ -107,7 +107,7 @@ returns-3 c =
     let i = p .locate .result .position .0 in
     met (p .before .before .before) _
     (ap (found i) (c .body-length .ensures ∙ ap body-length (m .small .ensures .0))
-    ∙ find-found (s .args .l) (areas s) (s .pre .1) (s .args .client) (s .args .sequence) (s .pre .0 .sane) (held-bodies (p .before .before .before)) (omega arith) i (b .body-at .result)
+    ∙ find-found (s .args .l) (areas s) (s .pre .1) (s .args .client) (s .args .sequence) (s .pre .0 .sane) (bodies-holding (p .before .before .before)) (omega arith) i (b .body-at .result)
     (stands p) (omega (arith, counts p)) (b .body-at .ensures .exact))
 
 pub find-spec : {M : Type 1} → statement M

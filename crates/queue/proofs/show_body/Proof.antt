@@ -13,8 +13,8 @@ use Rattle.queue.specs.Shown.{shown-none, shown-low, shown-room, shown-s
 use Rattle.queue.proofs.show_body.Statement.{statement}
 use Rattle.queue.proofs.show_body.Tie as tie
 
-held-bodies : (c : tie.After-shared-slice-known) → HoldsBodies (c .before .args .l) (c .before .args .bodies .now) (parse (c .before .args .l) (c .before .args .records .now, c .before .args .bodies .now))
-held-bodies c =
+bodies-holding : (c : tie.After-shared-slice-known) → HoldsBodies (c .before .args .l) (c .before .args .bodies .now) (parse (c .before .args .l) (c .before .args .records .now, c .before .args .bodies .now))
+bodies-holding c =
     fit-bodies (c .before .args .l) (c .before .pre .0 .sane) (c .before .args .records .now, c .before .args .bodies .now) (λ i. c .shared-slice-known .given i .fits) (c .before .pre .1)
 
 find-requires : tie.Need-find-requires
@@ -50,7 +50,7 @@ says c = sym (c .before .before .find .ensures .answers) ∙ ap finding (c .posi
 low : (c : tie.After-position) → c .position .given .0 .0 .0 < c .before .before .before .before .before .args .l .pending
 low c =
     let s = c .before .before .before .before .before in
-    shown-low (s .args .l) (s .pre .0 .sane) (s .args .records .now) (s .args .bodies) (s .args .bodies) (s .args .client) (s .args .sequence) (s .pre .1) (held-bodies (c .before .before .before .before)) (c .position .given .0 .0 .0) (c .position .given .0 .1 .0) _ (says c) refl
+    shown-low (s .args .l) (s .pre .0 .sane) (s .args .records .now) (s .args .bodies) (s .args .bodies) (s .args .client) (s .args .sequence) (s .pre .1) (bodies-holding (c .before .before .before .before)) (c .position .given .0 .0 .0) (c .position .given .0 .1 .0) _ (says c) refl
 
 body-at-requires : tie.Need-body-at-requires
 body-at-requires c κs =
@@ -71,14 +71,14 @@ part-result-end : tie.Need-part-result-end
 part-result-end c =
     let p = c .before .before .before in
     let s = p .before .before .before .before .before in
-    shown-room (s .args .l) (s .pre .0 .sane) (s .args .records .now) (s .args .bodies) (s .args .bodies) (s .args .client) (s .args .sequence) (s .pre .1) (held-bodies (p .before .before .before .before)) (p .position .given .0 .0 .0) (p .position .given .0 .1 .0) (c .body-at .result) (says p) (c .body-at .ensures .exact)
+    shown-room (s .args .l) (s .pre .0 .sane) (s .args .records .now) (s .args .bodies) (s .args .bodies) (s .args .client) (s .args .sequence) (s .pre .1) (bodies-holding (p .before .before .before .before)) (p .position .given .0 .0 .0) (p .position .given .0 .1 .0) (c .body-at .result) (says p) (c .body-at .ensures .exact)
 
 returns-2 : tie.Need-returns-2
 returns-2 c =
     let b = c .before in
     let p = b .before .before .before in
     let s = p .before .before .before .before .before in
-    shown-some (s .args .l) (s .pre .0 .sane) (s .args .records .now) (s .args .bodies) _ (s .args .client) (s .args .sequence) (s .pre .1) (held-bodies (p .before .before .before .before)) (p .position .given .0 .0 .0) (p .position .given .0 .1 .0) (b .body-at .result) (says p) (b .body-at .ensures .exact)
+    shown-some (s .args .l) (s .pre .0 .sane) (s .args .records .now) (s .args .bodies) _ (s .args .client) (s .args .sequence) (s .pre .1) (bodies-holding (p .before .before .before .before)) (p .position .given .0 .0 .0) (p .position .given .0 .1 .0) (b .body-at .result) (says p) (b .body-at .ensures .exact)
     refl refl
 
 pub show-body-spec : {M : Type 1} → statement M

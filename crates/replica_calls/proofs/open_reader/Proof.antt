@@ -3,7 +3,7 @@ use mathlib.Core.Path.{sym, _∙_}
 use denote.Ref.{now}
 use borrow.Author.Needs.{needs}
 use Rattle.model.specs.Calls.{open-reader}
-use Rattle.layout.specs.Contract.{held-in-shape, met-unfit}
+use Rattle.layout.specs.Contract.{holds-shaped, met-unfit}
 use Rattle.replica_calls.proofs.open_reader.Statement.{statement}
 use Rattle.replica_calls.proofs.open_reader.Tie as tie
 
@@ -12,7 +12,7 @@ open-reader-requires c κs =
     let s = c .before .before .before .before in
     let a = s .args in
     let f = sym (s .pre .1) ∙ c .before .if1 .taken in
-    (s .pre .0, held-in-shape (a .l) (s .pre .0 .sane) (now (a .records), now (a .bodies)) (λ i. c .before .before .before .slice-known .given i .fits) f)
+    (s .pre .0, holds-shaped (a .l) (s .pre .0 .sane) (now (a .records), now (a .bodies)) (λ i. c .before .before .before .slice-known .given i .fits) f)
 
 same-length : tie.Need-same-length
 same-length c = search needs

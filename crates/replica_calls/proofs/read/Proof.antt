@@ -3,7 +3,7 @@ use mathlib.Core.Path.{sym, _∙_}
 use denote.Ref.{now}
 use borrow.Author.Needs.{needs}
 use Rattle.model.specs.Calls.{read}
-use Rattle.layout.specs.Contract.{held-in-shape, met-unfit}
+use Rattle.layout.specs.Contract.{holds-shaped, met-unfit}
 use Rattle.replica_calls.proofs.read.Statement.{statement}
 use Rattle.replica_calls.proofs.read.Tie as tie
 
@@ -12,7 +12,7 @@ read-requires c κs =
     let s = c .before .before .before in
     let a = s .args in
     let f = sym (s .pre .1) ∙ c .if1 .taken in
-    (s .pre .0, held-in-shape (a .l) (s .pre .0 .sane) (now (a .records), now (a .bodies)) (λ i. c .before .before .shared-slice-known .given i .fits) f)
+    (s .pre .0, holds-shaped (a .l) (s .pre .0 .sane) (now (a .records), now (a .bodies)) (λ i. c .before .before .shared-slice-known .given i .fits) f)
 
 returns : tie.Need-returns
 returns c =

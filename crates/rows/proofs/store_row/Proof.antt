@@ -9,7 +9,7 @@ use Rattle.cells.specs.Cells.{cells, splice}
 use Rattle.cells.specs.BlockMoves.{cells-fill}
 use Rattle.cells.specs.CellLaws.{length-cells-whole}
 use Rattle.layout.specs.Rows.{blank}
-use Rattle.execution.specs.Arrays.{run-held}
+use Rattle.execution.specs.Arrays.{run-of-arrays}
 use Rattle.layout.specs.Layout.{run}
 use Rattle.layout.specs.Offsets.{entry-at}
 use Rattle.rows.specs.Storing.{row-stored, row-bytes}
@@ -63,7 +63,7 @@ returns c =
           let e4 : b4 ≡ splice b3 (k * 8) (blank (entry-at m * 8 - k * 8)) = zeros .fill-zero .ensures ∙ ap (λ (x : ℕ). splice b3 (k * 8) (blank (x - k * 8))) (len3 ∙ n) in
           let room = s .pre .long in
           let c4 = ap cells e4 ∙ cells-fill b3 k (entry-at m) (omega arith) (omega arith) in
-          row-bytes before b4 (entry-at m) (run m .enc (run-held t (now (a .registers)) (now (a .ro)) (now (a .rv)) (now (a .wo)) (now (a .wv))))
+          row-bytes before b4 (entry-at m) (run m .enc (run-of-arrays t (now (a .registers)) (now (a .ro)) (now (a .rv)) (now (a .wo)) (now (a .wv))))
           (λ i. front .before .before .slice-known .given i .fits) (λ i. c .slice-known5 .given i .fits) n (len4 ∙ n)
           (row-stored t (now (a .registers)) (s .pre .registers) (now (a .ro)) (now (a .rv)) (now (a .wo)) (now (a .wv)) m (cells before) (length-cells-whole (entry-at m) before n) (omega arith)
           (cells (front .store-front .last .0)) (cells (reads .store-entries .last .0)) (cells b3) (cells b4)

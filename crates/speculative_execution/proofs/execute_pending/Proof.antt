@@ -98,16 +98,16 @@ most x =
     lent-most (start lp .pre) (bytes lp) (lp .loop .inv .1) (turn (turn-of p)) (p .before .before .before .before .before .row-at .ensures .exact) (p .before .before .before .before .row-at2 .ensures .exact) (p .before .before .before .body-at .ensures .exact) (body-bytes p) (x .advance .ensures)
 
 -- both slices keep their lengths
-records-kept : (x : After) → (let p = prepared x in let r = p .before .before .before .before .before .row-at .result * 8 in let e = p .before .before .before .before .row-at2 .result * 8 in
+records-same : (x : After) → (let p = prepared x in let r = p .before .before .before .before .before .row-at .result * 8 in let e = p .before .before .before .before .row-at2 .result * 8 in
     length (putMid r (e - r) (head p .loop .records) (x .advance .last .0)) ≡ length (now (start (head p) .args .records)))
-records-kept x =
+records-same x =
     let p = prepared x in
     let r = p .before .before .before .before .before .row-at .result * 8 in
     let e = p .before .before .before .before .row-at2 .result * 8 in
     same-len-mid r (e - r) (head p .loop .records) (x .advance .last .0) (x .advance .kept .0) ∙ head p .loop .inv .0
 
-table-kept : (lp : At) → object-count (lp .loop .table) ≡ object-count (now (start lp .args .table))
-table-kept lp = lp .loop .inv .1 .size ∙ sym (start lp .pre .size)
+table-same : (lp : At) → object-count (lp .loop .table) ≡ object-count (now (start lp .args .table))
+table-same lp = lp .loop .inv .1 .size ∙ sym (start lp .pre .size)
 
 -- ---- the needs
 
@@ -187,10 +187,10 @@ sub-t32 : tie.Need-sub-t32 Inv-loop μ-loop
 sub-t32 c = let x = c .before .before .before .before .before .before in omega (arith, head (prepared x) .loop .inv .1 .unspent)
 
 same-length : tie.Need-same-length Inv-loop μ-loop
-same-length c = records-kept (c .before .before .before .before .before .before)
+same-length c = records-same (c .before .before .before .before .before .before)
 
 same-length-2 : tie.Need-same-length-2 Inv-loop μ-loop
-same-length-2 c = let x = c .before .before .before .before .before .before in x .advance .kept .1 .1 .0 ∙ table-kept (head (prepared x))
+same-length-2 c = let x = c .before .before .before .before .before .before in x .advance .kept .1 .1 .0 ∙ table-same (head (prepared x))
 
 returns : tie.Need-returns Inv-loop μ-loop
 returns c =
@@ -211,7 +211,7 @@ loop-again c =
     let x = c .before .before .before .before .before .before in
     let p = prepared x in
     let lp = head p in (
-      records-kept x,
+      records-same x,
       lent-next (start lp .pre) (bytes lp) (lp .loop .inv .1) (turn (turn-of p)) (p .before .before .before .before .before .row-at .ensures .exact) (p .before .before .before .before .row-at2 .ensures .exact) (p .before .before .before .body-at .ensures .exact) (body-bytes p)
           (x .advance .ensures) (not-false _ (c .if1 .left)) (x .advance .kept .1 .1 .0),
     )
@@ -223,7 +223,7 @@ same-length-3 : tie.Need-same-length-3 Inv-loop μ-loop
 same-length-3 c = c .before .loop .inv .0
 
 same-length-4 : tie.Need-same-length-4 Inv-loop μ-loop
-same-length-4 c = table-kept (c .before)
+same-length-4 c = table-same (c .before)
 
 returns-2 : tie.Need-returns-2 Inv-loop μ-loop
 returns-2 c =

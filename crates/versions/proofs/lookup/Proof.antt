@@ -7,14 +7,14 @@ use Rattle.cells.specs.Signed.{told}
 use Rattle.cells.specs.Cells.{cells}
 use Rattle.model.specs.Replica.{as-of}
 use Rattle.versions.specs.BlockLoops.{look-start, look-here, look-on, look-end}
-use Rattle.versions.specs.Block.{versions-in, held-in}
+use Rattle.versions.specs.Block.{versions-in, block-versions}
 use Rattle.versions.proofs.lookup.Statement.{statement}
 use Rattle.versions.proofs.lookup.Tie as tie
 
 abbrev Inv-loop : tie.InvT-loop
 Inv-loop block stamp left₀ k₀ left k =
     (k + 2 * left ≡ 1 + 2 * getD (cells block) 0 0)
-    × (as-of stamp (held-in (cells block)) .value ≡ as-of stamp (versions-in left (drop k (cells block))) .value)
+    × (as-of stamp (block-versions (cells block)) .value ≡ as-of stamp (versions-in left (drop k (cells block))) .value)
 
 abbrev μ-loop : tie.MeasureT-loop
 μ-loop block stamp left₀ k₀ left k = left

@@ -16,8 +16,8 @@ lent : (c : tie.After-slice-known) → (let a = c .before .args in (rc : List �
 lent c rc x k = record { size = c .before .pre .size; bytes = λ i. c .slice-known .given i .fits; beside = x; checked = k }
 
 -- with the readers of the contract
-held : (c : tie.After-slice-known) → (let e = c .before in let a = e .args in Case (a .readers) (a .c) (a .p) (a .q) (e .pre .others) (a .block .now))
-held c = lent c (c .before .pre .others) (c .before .pre .beside) (c .before .pre .checked)
+closing : (c : tie.After-slice-known) → (let e = c .before in let a = e .args in Case (a .readers) (a .c) (a .p) (a .q) (e .pre .others) (a .block .now))
+closing c = lent c (c .before .pre .others) (c .before .pre .beside) (c .before .pre .checked)
 
 before-seen : tie.After-not-seen → tie.After-slice-known
 before-seen c = c .before .before .before .before .before
@@ -47,7 +47,7 @@ sub-get : tie.Need-sub-get
 unfolding before-seen
 sub-get c =
     let at-seen = c .before in
-    omega (arith, behind-newest (held (before-seen at-seen)) (late at-seen) (at-seen .not-seen .result) (at-seen .not-seen .ensures .0))
+    omega (arith, behind-newest (closing (before-seen at-seen)) (late at-seen) (at-seen .not-seen .result) (at-seen .not-seen .ensures .0))
 
 get-requires-2 : tie.Need-get-requires-2
 get-requires-2 c κs = search needs
@@ -68,7 +68,7 @@ drop-version-requires c κs =
     let at-seen = at-get2 .before .before in
     let start = before-seen at-seen in
     let j = at-seen .not-seen in
-    let count = inside (held start) (late at-seen) (j .result) (j .ensures .0) in
+    let count = inside (closing start) (late at-seen) (j .result) (j .ensures .0) in
     (start .before .pre .size, j .ensures .1, omega arith)
 
 same-length-2 : tie.Need-same-length-2

@@ -1,4 +1,4 @@
--- `versions_push::keep_held` meets its contract. Invariant: what stands in front, the version in hand and those yet to be kept make up the target,
+-- `versions_push::keep_held` meets its contract. Invariant: what stands in front, the version in hand and those yet to be looked at make up the target,
 -- and from cell i on nothing has changed. The measure is the number of versions left.
 use mathlib.Core.Path.{_≡_, refl, _∙_}
 use Prim.Native.Nat.{_+_, _*_, _≤_}
@@ -8,7 +8,7 @@ use borrow.Author.Needs.{needs}
 use Rattle.cells.specs.Cells.{cells}
 use Rattle.cells.specs.CellLaws.{length-cells-whole}
 use Rattle.versions.specs.Block.{width}
-use Rattle.versions_push.specs.Kept.{fronted}
+use Rattle.versions_push.specs.Trimmed.{fronted}
 use Rattle.versions_push.specs.Moving.{Moving, moving-keep, moving-drop, moving-end, moving-size}
 use Rattle.versions_push.proofs.keep_held.Statement.{statement}
 use Rattle.versions_push.proofs.keep_held.Tie as tie

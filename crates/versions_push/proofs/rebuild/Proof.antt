@@ -5,7 +5,7 @@ use lib.ListN.{drop}
 use borrow.Author.Needs.{needs}
 use Rattle.cells.specs.Cells.{cells}
 use Rattle.versions_push.specs.Push.{rebuilt}
-use Rattle.versions_push.specs.Kept.{kept}
+use Rattle.versions_push.specs.Trimmed.{trim-cells}
 use Rattle.versions_push.proofs.rebuild.Statement.{statement}
 use Rattle.versions_push.proofs.rebuild.Tie as tie
 
@@ -42,7 +42,7 @@ returns c =
     let a = at-keep .before .before .before .before .args in
     let k = at-keep .keep-held in
     let f = at-fill .fill-zero in
-    rebuilt (a .readers) (k .result) (a .block .now) (k .last .0) (f .last .0) (p .last .0) (a .stamp ∷ a .value ∷ kept (cells (a .snapshots .now)) (a .stamp) (a .count) (drop (a .start) (cells (a .block .now))))
+    rebuilt (a .readers) (k .result) (a .block .now) (k .last .0) (f .last .0) (p .last .0) (a .stamp ∷ a .value ∷ trim-cells (cells (a .snapshots .now)) (a .stamp) (a .count) (drop (a .start) (cells (a .block .now))))
     (search needs) (k .ensures .size) (omega arith) (omega arith) (k .ensures .front) (rw (at-width .width .ensures) at (f .ensures)) (λ i. c .slice-known4 .given i .fits) (search needs) (p .ensures .cell)
 
 pub rebuild-spec : {M : Type 1} → statement M

@@ -35,7 +35,7 @@ nibble-requires-2 : tie.Need-nibble-requires-2 Inv-loop μ-loop
 nibble-requires-2 c κs = tt
 
 same-length : tie.Need-same-length Inv-loop μ-loop
-same-length c = c .before .before .before .before .before .before .loop .inv .kept
+same-length c = c .before .before .before .before .before .before .loop .inv .same-size
 
 returns : tie.Need-returns Inv-loop μ-loop
 returns c =
@@ -44,7 +44,7 @@ returns c =
     high-wrong (now (a .word)) (now (a .out)) (l .out) (l .i) (l .n) (l .inv) (omega arith) (c .before .before .before .nibble .result) (c .before .nibble2 .result) (c .before .before .before .nibble .ensures) (c .before .nibble2 .ensures) (omega arith)
 
 same-length-2 : tie.Need-same-length-2 Inv-loop μ-loop
-same-length-2 c = c .before .before .before .before .before .before .before .loop .inv .kept
+same-length-2 c = c .before .before .before .before .before .before .before .loop .inv .same-size
 
 returns-2 : tie.Need-returns-2 Inv-loop μ-loop
 returns-2 c =
@@ -53,7 +53,7 @@ returns-2 c =
     low-wrong (now (a .word)) (now (a .out)) (l .out) (l .i) (l .n) (l .inv) (omega arith) (c .before .before .before .before .nibble .result) (c .before .before .nibble2 .result) (c .before .before .before .before .nibble .ensures) (c .before .before .nibble2 .ensures) (omega arith)
 
 same-length-3 : tie.Need-same-length-3 Inv-loop μ-loop
-same-length-3 c = c .before .before .before .before .before .before .before .before .loop .inv .kept
+same-length-3 c = c .before .before .before .before .before .before .before .before .loop .inv .same-size
 
 returns-3 : tie.Need-returns-3 Inv-loop μ-loop
 returns-3 c =
@@ -86,7 +86,7 @@ loop-again c =
     goes-on (now (a .word)) (now (a .out)) (l .out) (l .i) (l .n) (l .inv) (omega arith) (c .before .before .before .before .before .nibble .result) (c .before .before .before .nibble2 .result) (c .before .before .before .before .before .nibble .ensures) (c .before .before .before .nibble2 .ensures) (omega arith) (omega arith) (omega arith)
 
 same-length-4 : tie.Need-same-length-4 Inv-loop μ-loop
-same-length-4 c = c .before .before .loop .inv .kept
+same-length-4 c = c .before .before .loop .inv .same-size
 
 returns-4 : tie.Need-returns-4 Inv-loop μ-loop
 returns-4 c =
@@ -95,7 +95,7 @@ returns-4 c =
     odd (now (a .word)) (now (a .out)) (l .out) (l .i) (l .n) (l .inv) (omega arith) (omega arith)
 
 same-length-5 : tie.Need-same-length-5 Inv-loop μ-loop
-same-length-5 c = c .before .before .loop .inv .kept
+same-length-5 c = c .before .before .loop .inv .same-size
 
 returns-5 : tie.Need-returns-5 Inv-loop μ-loop
 returns-5 c =
