@@ -10,7 +10,7 @@ use lib.Signed.{mag, ltZ}
 use borrow.Author.Tests.{ltb-true}
 use mir.Syntax.{w64}
 use mir.Val.{SFits, toZ, ofZ}
-use mir.Facts.{toZ-ofZ}
+use mir.Facts.{toZ-ofZ, toZ-pos}
 use Rattle.arith.specs.Integer.{on-side}
 use Rattle.arith.specs.IntegerLaws.{pos-part, neg-part, difference-parts, same-parts, read-back}
 
@@ -31,6 +31,9 @@ pub flip-pos : (n : ℕ) → negsuc 0 -ℤ pos n ≡ negsuc n
 unfolding pos-part neg-part
 flip-pos n = same-parts _ _ (omega (arith, difference-parts (negsuc 0) (pos n)))
 
+pub flip-fits : (n : ℕ) → SFits w64 (pos n) → SFits w64 (negsuc 0 -ℤ toZ w64 (ofZ w64 (pos n)))
+flip-fits n h = rw (toZ-pos w64 (h .sfits), flip-pos) (record { sfits = h .sfits })
+
 negsuc-neg : (q : ℕ) → (q ≡ 0 → ⊥) → negsuc (q - 1) ≡ negℤ (pos q)
 negsuc-neg zero h = absurd (h refl)
 negsuc-neg (suc q) h = ap negsuc (omega arith)
@@ -41,8 +44,12 @@ module _ {x : ℤ} (f : SFits w64 x) where
     pub low : x ≡ negsuc (mag x)
     low = below x (rw (toZ-ofZ f) at e)
 
-    pub flipped : negsuc 0 -ℤ toZ w64 (ofZ w64 x) ≡ pos (mag x)
+    flipped : negsuc 0 -ℤ toZ w64 (ofZ w64 x) ≡ pos (mag x)
     flipped = rw (toZ-ofZ f) (ap (λ (z : ℤ). negsuc 0 -ℤ z) low ∙ flip-negsuc (mag x))
+
+    -- -1 - x is in the range, as 0 - x need not be
+    pub flipped-fits : SFits w64 (negsuc 0 -ℤ toZ w64 (ofZ w64 x))
+    flipped-fits = rw flipped (record { sfits = f .sfits })
 
     pub flipped-read : toZ w64 (ofZ w64 (negsuc 0 -ℤ toZ w64 (ofZ w64 x))) ≡ pos (mag x)
     flipped-read = rw flipped (read-back {z = pos (mag x)} (f .sfits))

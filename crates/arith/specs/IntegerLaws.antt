@@ -12,8 +12,7 @@ use borrow.Author.Tests.{eq-eqb, eqb-true, leb-true, leb-false, ltb-true, ltb-fa
 use mir.Syntax.{w64}
 use mir.Val.{SFits, toZ, ofZ}
 use mir.Facts.{toZ-ofZ}
-use Rattle.arith.specs.declared.Checked.the-variants.{Value, Overflow}
-use Rattle.arith.specs.Integer.{fits, pick-checked, bounded, rounds-up, pick-nat, rounded, quotient, eq-z}
+use Rattle.arith.specs.Integer.{fits, rounds-up, pick-nat, rounded, quotient, eq-z}
 
 -- ---- a signed number as two naturals, so that `omega` reads sums, differences and orders: z is pos-part z less neg-part z, and one of them is 0
 
@@ -102,32 +101,7 @@ unfolding fits pos-part neg-part
 below-range (pos n) h = le-ltb n (2 ^ 63) (omega arith)
 below-range (negsuc n) h = le-ltb n (2 ^ 63) (omega arith)
 
--- what an answer of `add` or `subtract` says of the sum or difference z
-module _ (z : ℤ) where
-  value-by : (v : ℤ) (t : Bool) → pick-checked t (Value z) Overflow ≡ Value v → (t ≡ true) × (z ≡ v)
-  value-by v true e = (refl, (cc))
-  value-by v false e = let n : _≡_ {A = ℕ} 0 1 = cc in absurd (omega arith)
-
-  overflow-by : (t : Bool) → pick-checked t (Value z) Overflow ≡ Overflow → t ≡ false
-  overflow-by true e = let n : _≡_ {A = ℕ} 0 1 = cc in absurd (omega arith)
-  overflow-by false e = refl
-
-  pub bounded-value : (v : ℤ) → bounded z ≡ Value v → (fits z ≡ true) × (z ≡ v)
-  bounded-value v e = value-by v (fits z) e
-
-  pub bounded-overflow : bounded z ≡ Overflow → fits z ≡ false
-  bounded-overflow e = overflow-by (fits z) e
-
 -- ---- bits
-
--- every word is the bits of a number in the range; past 64 bits `toZ w64` gives -1
-pub fits-toZ : (v : ℕ) → fits (toZ w64 v) ≡ true
-unfolding fits
-fits-toZ v = by (ltb v (2 ^ 63)) refl
-  where
-    by : (t : Bool) → ltb v (2 ^ 63) ≡ t → fits (toZ w64 v) ≡ true
-    by true e = rw e (lt-ltb v (2 ^ 63) (ltb-true v (2 ^ 63) e))
-    by false e = rw e (lt-ltb (2 ^ 64 - suc v) (2 ^ 63) (omega (arith, ltb-false v (2 ^ 63) e)))
 
 -- a number in the range is read back from its bits
 pub read-back : {z : ℤ} → mag z < 2 ^ 63 → toZ w64 (ofZ w64 z) ≡ z

@@ -45,8 +45,12 @@ not-done k e = let z : _≡_ {A = ℕ} 0 1 = cc in omega arith
 
 -- ---- areas that pass the check: the model's call
 
+-- "(except at opening)": whatever they hold, an opening looks at the lengths alone
+opening-asked : (l : Limits) (o : Opening) (a : Areas) → asked l (opening o) a ≡ lengths l a
+opening-asked l o a = refl
+
 fit-asked : (l : Limits) (c : Call) (a : Areas) → fit l a ≡ true → asked l c a ≡ true
-fit-asked l (opening o) a f = fit-says l a f .lengths
+fit-asked l (opening o) a f = opening-asked l o a ∙ fit-says l a f .lengths
 fit-asked l (update c) a f = f
 fit-asked l (query q) a f = f
 

@@ -7,12 +7,11 @@ use Prim.Native.Nat.{ℕ}
 use lib.IntN.{ℤ, pos, negsuc}
 use lib.ListN.{getD}
 use Rattle.operation.specs.Encode.{encode}
-use Rattle.operation.specs.declared.Operation.{Operation}
 use Rattle.operation.specs.declared.Operation.the-variants.{Load, Store, Set, Add}
 use Rattle.model.specs.Calls.{plain, Call, opening, optimistic, execute, final, open-reader, read, close-reader, find, show-body}
 use Rattle.model.specs.Calls.{Answer, refused, done, executed, committed, value, found, body, numbers, seen, leaves, spent}
 use Rattle.model.specs.Start.{start-of}
-use Rattle.model.specs.Replica.{Replica, opened, calls}
+use Rattle.model.specs.Replica.{opened, calls}
 use Rattle.model.specs.Limits.{small}
 use Rattle.model.specs.Computing.{computing}
 

@@ -179,9 +179,11 @@ unfoldable pub refusals : List (Call × List ℤ)
 refusals =
     (opening (by-values 0 [] 0), pos 2 ∷ [])
     ∷ (opening (by-values 17 (replicate 17 (pos 0)) 0), pos 2 ∷ [])
-    ∷ (opening (by-values 3 (pos 0 ∷ pos 0 ∷ []) 0), pos 2 ∷ [])
+    ∷ (opening (by-values 3 (replicate 2 (pos 0)) 0), pos 2 ∷ [])
+    ∷ (opening (by-values 3 (replicate 4 (pos 0)) 0), pos 2 ∷ [])
     ∷ (optimistic 16 0 wrong, pos 3 ∷ [])  -- spent, wrong, full
     ∷ (optimistic 1 1 wrong, pos 4 ∷ [])  -- wrong, full
+    ∷ (optimistic 9 0 one, pos 4 ∷ [])  -- "sequence 0 is always spent"; full
     ∷ (optimistic 2 1 wrong, pos 5 ∷ [])  -- wrong, full
     ∷ (optimistic 1 2 wrong, pos 6 ∷ [])  -- full
     ∷ (optimistic 1 2 one, pos 7 ∷ [])
@@ -217,9 +219,11 @@ refusals-hold = refl
 unfoldable pub taken : List (Call × List ℤ)
 taken =
     (opening (by-values 16 (replicate 16 (pos 0)) 0), pos 0 ∷ [])
+    ∷ (opening (by-values 1 (pos 5 ∷ []) 4294967295), pos 0 ∷ [])
     ∷ (execute 5, pos 0 ∷ pos 5 ∷ pos 5 ∷ [])
     ∷ (open-reader 1, pos 0 ∷ [])
     ∷ (read 0 1, pos 0 ∷ pos 20 ∷ [])
+    ∷ (read 0 2, pos 0 ∷ pos 0 ∷ [])  -- the last object
     ∷ (close-reader 0, pos 0 ∷ [])
     ∷ (find 15 1, pos 0 ∷ pos 7 ∷ pos 12 ∷ [])
     ∷ (show-body 15 1, map pos one)
@@ -249,13 +253,15 @@ pub leaving-holds : calls small (opened small (start-of (plain (pos 10 ∷ pos 2
 unfolding computing leaving
 leaving-holds = refl
 
--- document 01, case 9, with the standard limits: work 4,096 and 4,097, 33 optimistic deliveries, n 129 and 128
+-- document 01, case 9, with the standard limits: work 4,096 and 4,097, 33 optimistic deliveries, n 129 and 128; and readers 6 and 7
 unfoldable pub borders : List Call
 borders =
     execute 4096
     ∷ execute 4097
+    ∷ open-reader 6
+    ∷ open-reader 7
     ∷ (listed (λ i. optimistic 15 (suc i) one) 33 ++ (opening (by-values 129 (replicate 129 (pos 0)) 0) ∷ opening (by-values 128 (replicate 128 (pos 0)) 0) ∷ []))
 
-pub borders-hold : calls standard (opened standard (start-of (plain (pos 10 ∷ pos 20 ∷ pos 30 ∷ []) 0))) borders .0 ≡ executed 0 0 ∷ refused 14 ∷ (replicate 32 done ++ (refused 7 ∷ refused 2 ∷ done ∷ []))
+pub borders-hold : calls standard (opened standard (start-of (plain (pos 10 ∷ pos 20 ∷ pos 30 ∷ []) 0))) borders .0 ≡ executed 0 0 ∷ refused 14 ∷ done ∷ refused 10 ∷ (replicate 32 done ++ (refused 7 ∷ refused 2 ∷ done ∷ []))
 unfolding computing borders
 borders-hold = refl

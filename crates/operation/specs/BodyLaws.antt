@@ -5,9 +5,9 @@ use mathlib.Core.Logic.{⊎-elim}
 use mathlib.Core.Option.{some}
 use mathlib.Core.List.{List, [], _∷_, head?}
 use mathlib.Core.Bool.{Bool, true, false, _&&_}
-use native.Mathlib.Nat.{eq-or-lt-of-le, lt-of-lt-of-le, le-of-suc-le-suc}
+use native.Mathlib.Nat.{eq-or-lt-of-le, le-of-suc-le-suc}
 use native.Mathlib.Omega.{arith}
-use lib.Dec.{T, ltb, eqb}
+use lib.Dec.{T, ltb}
 use lib.ListN.{length, getD, drop, length-drop, List·getD-eq-default}
 use lib.Seq.{drop-cons}
 use borrow.Author.Tests.{ltb-true, ltb-false, leb-true, eqb-true, lt-ltb, le-leb, eq-eqb}
@@ -17,7 +17,7 @@ use Rattle.arith.specs.Integer.{fits}
 use Rattle.operation.specs.declared.Operation.{Operation}
 use Rattle.operation.specs.declared.Operation.the-variants.{Load, Store, Set, Add, Subtract, Skip, Fail, Divide}
 use Rattle.operation.specs.declared.Decoded.the-variants.{WellFormed, Malformed}
-use Rattle.operation.specs.Body.{register-count, is-register, longest-skip, most-divisor, size, kind-byte, first-byte, second-byte, constant-word}
+use Rattle.operation.specs.Body.{register-count, longest-skip, most-divisor, size, kind-byte, first-byte, second-byte, constant-word}
 use Rattle.operation.specs.Body.{operation-of, operation-at, listed, operations, allowed, allowed-at, each, is-well-formed, pick-decoded, decoded}
 
 -- ---- the operations as a list
@@ -198,23 +198,3 @@ module _ (limit n : ℕ) (b : List ℕ) (w : is-well-formed limit n b ≡ true) 
   valid-drop i x rest e =
       let p = place b i x rest e in
       rw (p .here, p .after) (valid-at i (p .inside))
-
--- ---- more objects
-
-object : (n n′ : ℕ) (a t : Bool) (s : ℕ) → n ≤ n′ → (a && ltb s n && t) ≡ true → (a && ltb s n′ && t) ≡ true
-object n n′ a t s l h =
-    let p = both (a && ltb s n) t h in
-    let q = both a (ltb s n) (p .0) in
-    rw (q .0, p .1, lt-ltb s n′ (lt-of-lt-of-le (ltb-true s n (q .1)) l))
-
-more-objects : (n n′ left kind f s c : ℕ) → n ≤ n′ → allowed n left kind f s c ≡ true → allowed n′ left kind f s c ≡ true
-unfolding allowed
-more-objects n n′ left zero f s c l h = object n n′ (is-register f) (eqb c 0) s l h
-more-objects n n′ left (suc zero) f s c l h = object n n′ (is-register f) (eqb c 0) s l h
-more-objects n n′ left (suc (suc kind)) f s c l h = h
-
-pub formed-more : (limit n n′ : ℕ) (b : List ℕ) → is-well-formed limit n b ≡ true → n ≤ n′ → is-well-formed limit n′ b ≡ true
-formed-more limit n n′ b h l =
-    let f = formed limit n b h in
-    well-formed
-    (record { some = f .some; most = f .most; whole = f .whole; all = λ i k. more-objects n n′ _ _ _ _ _ l (f .all i k) })

@@ -1,5 +1,5 @@
 -- Zeros by units of 11 bytes, an operation's: two words that overlap, from the first byte and from the fourth. Assumes nothing.
-use Prim.Native.Nat.{ℕ, _+_, _*_, _≤_}
+use Prim.Native.Nat.{ℕ, _+_, _≤_}
 use mathlib.Core.Path.{_≡_, refl}
 use mathlib.Core.List.{List}
 use native.Mathlib.Omega.{arith}

@@ -88,19 +88,19 @@ fn rows_ok(rows: &[u8], places: &[u8], lasts: &[u8], most: usize, n: usize, coun
 }
 
 // The rows in use, count of them, where they lie in the areas, beside the number of objects and the last numbers.
-fn used_ok(area: &[u8], bodies: &[u8], l: Limits, count: usize) -> bool
-    requires lent { ⌜ Record l (now area) × (length (now bodies) ≡ bodies-length l) ⌝ }
+fn used_ok(records: &[u8], bodies: &[u8], l: Limits, count: usize) -> bool
+    requires lent { ⌜ Record l (now records) × (length (now bodies) ≡ bodies-length l) ⌝ }
     requires few { ⌜ count ≤ l .pending ⌝ }
-    ensures { λ r. ⌜ r ≡ used-in l count (cells (now (area .entry))) (now (bodies .entry)) ⌝ }
+    ensures { λ r. ⌜ r ≡ used-in l count (cells (now (records .entry))) (now (bodies .entry)) ⌝ }
 {
-    let n = cells::get(area, layout::size_at(l)) as usize;
+    let n = cells::get(records, layout::size_at(l)) as usize;
     let lasts = layout::last_at(l, 0) * 8;
     let readers = layout::reader_at(l, 0) * 8;
     let first = layout::row_at(l, 0) * 8;
     rows_ok(
-        &area[first..],
+        &records[first..],
         bodies,
-        &area[lasts..readers],
+        &records[lasts..readers],
         l.operations,
         n,
         count,
@@ -108,19 +108,19 @@ fn used_ok(area: &[u8], bodies: &[u8], l: Limits, count: usize) -> bool
 }
 
 // The number of pending transactions, their rows and bodies, and zeros where there might be more of both.
-fn pending_ok(area: &[u8], bodies: &[u8], l: Limits) -> bool
-    requires { ⌜ Record l (now area) × (length (now bodies) ≡ bodies-length l) ⌝ }
-    ensures { λ r. ⌜ r ≡ pending-part l (cells (now (area .entry))) (now (bodies .entry)) ⌝ }
+fn pending_ok(records: &[u8], bodies: &[u8], l: Limits) -> bool
+    requires { ⌜ Record l (now records) × (length (now bodies) ≡ bodies-length l) ⌝ }
+    ensures { λ r. ⌜ r ≡ pending-part l (cells (now (records .entry))) (now (bodies .entry)) ⌝ }
 {
-    let count = cells::get(area, layout::pending_at(l)) as usize;
+    let count = cells::get(records, layout::pending_at(l)) as usize;
     if l.pending < count {
         return false;
     }
     let end = layout::row_at(l, count) * 8;
     let tail = layout::row_at(l, l.pending) * 8;
     let last = layout::body_at(l, count);
-    if used_ok(area, bodies, l, count) {
-        if zero_scan::all_zero(area, end, tail) {
+    if used_ok(records, bodies, l, count) {
+        if zero_scan::all_zero(records, end, tail) {
             return zero_scan::all_zero(bodies, last, bodies.len());
         }
     }
@@ -128,19 +128,19 @@ fn pending_ok(area: &[u8], bodies: &[u8], l: Limits) -> bool
 }
 
 // The shape check. Areas of wrong lengths fail it; on others the header first, since the objects are judged beside its timestamp and readers.
-pub fn check(area: &[u8], bodies: &[u8], l: Limits) -> bool
+pub fn check(records: &[u8], bodies: &[u8], l: Limits) -> bool
     requires { ⌜ Sane l × (l .operations ≤ 16) ⌝ }
-    ensures { λ r. ⌜ r ≡ fit l (now (area .entry), now (bodies .entry)) ⌝ }
+    ensures { λ r. ⌜ r ≡ fit l (now (records .entry), now (bodies .entry)) ⌝ }
 {
-    if area.len() != layout::record_length(l) {
+    if records.len() != layout::record_length(l) {
         return false;
     }
     if bodies.len() != layout::bodies_length(l) {
         return false;
     }
-    if shape_objects::header_ok(area, l) {
-        if shape_objects::objects_ok(area, l) {
-            return pending_ok(area, bodies, l);
+    if shape_objects::header_ok(records, l) {
+        if shape_objects::objects_ok(records, l) {
+            return pending_ok(records, bodies, l);
         }
     }
     false

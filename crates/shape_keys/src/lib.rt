@@ -17,12 +17,12 @@ fn mark_of(key: u64) -> usize
 }
 
 // Is a key new after the first count blocks, where seen says whether its mark is set?
-fn is_new(area: &[u8], width: usize, count: usize, key: u64, seen: bool) -> bool
-    requires { ⌜ (0 < width) × (count * width * 8 ≤ length (now area)) ⌝ }
-    ensures { λ r. ⌜ r ≡ cond seen (absent-in key (chunks width count (cells (now (area .entry))))) true ⌝ }
+fn is_new(rows: &[u8], width: usize, count: usize, key: u64, seen: bool) -> bool
+    requires { ⌜ (0 < width) × (count * width * 8 ≤ length (now rows)) ⌝ }
+    ensures { λ r. ⌜ r ≡ cond seen (absent-in key (chunks width count (cells (now (rows .entry))))) true ⌝ }
 {
     if seen {
-        shape_row::absent(area, width, count, key)
+        shape_row::absent(rows, width, count, key)
     } else {
         true
     }
@@ -30,17 +30,17 @@ fn is_new(area: &[u8], width: usize, count: usize, key: u64, seen: bool) -> bool
 
 // Do the first count blocks, of width cells each, begin with different keys? Each is new after those before it, up to the first that is not; the
 // mark of every key passed is set.
-pub fn distinct(area: &[u8], width: usize, count: usize) -> bool
-    requires { ⌜ (0 < width) × (count * width * 8 ≤ length (now area)) ⌝ }
-    ensures { λ r. ⌜ r ≡ lone-in width count (cells (now (area .entry))) ⌝ }
+pub fn distinct(rows: &[u8], width: usize, count: usize) -> bool
+    requires { ⌜ (0 < width) × (count * width * 8 ≤ length (now rows)) ⌝ }
+    ensures { λ r. ⌜ r ≡ lone-in width count (cells (now (rows .entry))) ⌝ }
 {
     let mut marks = [false; 256];
     let mut at = 0;
     let mut i = 0;
     while i < count {
-        let key = cells::get(area, at);
+        let key = cells::get(rows, at);
         let m = mark_of(key);
-        if is_new(area, width, i, key, marks[m]) {
+        if is_new(rows, width, i, key, marks[m]) {
             marks[m] = true;
             at += width;
             i += 1;

@@ -12,14 +12,14 @@ ghost use Rattle.shape_row.specs.RowScan.{absent as absent-in, names-in,
 ghost use Rattle.shape_row.specs.LentRow.{Row};
 
 // Does none of the first count blocks, of width cells each, begin with key? Block by block, up to the first that does.
-pub fn absent(area: &[u8], width: usize, count: usize, key: u64) -> bool
-    requires { ⌜ (0 < width) × (count * width * 8 ≤ length (now area)) ⌝ }
-    ensures { λ r. ⌜ r ≡ absent-in key (chunks width count (cells (now (area .entry)))) ⌝ }
+pub fn absent(blocks: &[u8], width: usize, count: usize, key: u64) -> bool
+    requires { ⌜ (0 < width) × (count * width * 8 ≤ length (now blocks)) ⌝ }
+    ensures { λ r. ⌜ r ≡ absent-in key (chunks width count (cells (now (blocks .entry)))) ⌝ }
 {
     let mut at = 0;
     let mut left = count;
     while 0 < left {
-        if cells::get(area, at) == key {
+        if cells::get(blocks, at) == key {
             return false;
         }
         at += width;

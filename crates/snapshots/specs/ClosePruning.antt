@@ -1,12 +1,11 @@
 -- What a reader's close asks of the objects' blocks, and what it leaves. Assumes nothing.
 use mathlib.Core.Path.{_≡_}
 use mathlib.Core.List.{List, _∷_, map}
-use Prim.Native.Nat.{ℕ, suc, _*_, _<_, _≤_, _^_}
+use Prim.Native.Nat.{ℕ, suc, _*_, _<_, _^_}
 use lib.ListN.{length}
 use Rattle.model.specs.declared.Limits.{Limits}
-use Rattle.model.specs.Calls.{Call, Answer}
-use Rattle.model.specs.Replica.{Replica, opens, prune, call}
-use Rattle.model.specs.Shape.{Shape, VersionsShape}
+use Rattle.model.specs.Replica.{Replica, opens, prune}
+use Rattle.model.specs.Shape.{VersionsShape}
 use Rattle.model.specs.ListLaws.{All}
 use Rattle.layout.specs.Offsets.{Sane}
 use Rattle.layout.specs.Holds.{Holds, with-objects}

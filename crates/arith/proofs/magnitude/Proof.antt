@@ -3,12 +3,12 @@ use borrow.Author.Needs.{needs}
 use native.Mathlib.Omega.{arith}
 use mathlib.Core.Path.{sym, _∙_}
 use mir.Facts.{toZ-ofZ}
-use Rattle.arith.proofs.Sides.{flipped, flipped-read, natAbs-low, high}
+use Rattle.arith.proofs.Sides.{flipped-fits, flipped-read, natAbs-low, high}
 use Rattle.arith.proofs.magnitude.Statement.{statement}
 use Rattle.arith.proofs.magnitude.Tie as tie
 
 sub-result : tie.Need-sub-result
-sub-result c = let f = c .before .fits .x in rw (flipped f (c .if1 .taken)) (record { sfits = f .sfits })
+sub-result c = flipped-fits (c .before .fits .x) (c .if1 .taken)
 
 cast-result : tie.Need-cast-result
 cast-result c =

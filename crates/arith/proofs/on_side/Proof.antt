@@ -7,7 +7,7 @@ use lib.IntN.{negsuc}
 use mir.Syntax.{w64}
 use mir.Facts.{toZ-pos}
 use Rattle.arith.specs.IntegerLaws.{read-back}
-use Rattle.arith.proofs.Sides.{low, high, flip-pos, side-low, natAbs-low, natAbs-high}
+use Rattle.arith.proofs.Sides.{low, high, flip-pos, flip-fits, side-low, natAbs-low, natAbs-high}
 use Rattle.arith.proofs.on_side.Statement.{statement}
 use Rattle.arith.proofs.on_side.Tie as tie
 
@@ -21,9 +21,7 @@ cast-result c =
     record { sfits = omega (arith, f .sfits, natAbs-low f (c .before .if1 .taken), s .pre) }
 
 sub-result-2 : tie.Need-sub-result-2
-sub-result-2 c =
-    let h = cast-result c .sfits in
-    rw (toZ-pos w64 h, flip-pos) (record { sfits = h })
+sub-result-2 c = flip-fits (c .before .before .args .q - 1) (cast-result c)
 
 cast-result-2 : tie.Need-cast-result-2
 cast-result-2 c =

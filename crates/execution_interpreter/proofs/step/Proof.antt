@@ -1,15 +1,31 @@
--- `step`: each kind's limits come from `Valid`, and each way out is a law of specs/Moves.antt or what a callee ensures.
-use Prim.Native.Nat.{_<_, _≤_}
+-- `step`: each kind's limits come from `Valid`, and each way out is a law of execution_effects/specs/OneOperation or what a callee ensures.
+use mathlib.Core.Path.{_≡_}
+use mathlib.Core.Bool.{true, false}
+use mathlib.Core.List.{List}
+use Prim.Native.Nat.{ℕ, _<_, _≤_}
+use lib.IntN.{ℤ, pos}
+use lib.Signed.{ltZ}
 use native.Mathlib.Omega.{arith}
 use denote.Ref.{now}
 use borrow.Author.Needs.{needs}
 use Rattle.arith.specs.IntegerLaws.{read-back}
 use Rattle.operation.specs.Body.{register-count, most-divisor}
-use Rattle.execution.specs.Run.{table-of, object-count, failed, register, move}
+use Rattle.operation.specs.declared.Operation.the-variants.{Skip}
+use Rattle.execution.specs.Run.{table-of, object-count, go, failed, register, move}
 use Rattle.execution.specs.Arrays.{capacity}
 use Rattle.execution_effects.specs.OneOperation.{bounded-advanced, bounded-stopped, settled-sum, went, halted}
 use Rattle.execution_interpreter.proofs.step.Statement.{statement}
 use Rattle.execution_interpreter.proofs.step.Tie as tie
+
+-- ---- a skip, by the sign of its register
+
+skip-below : (g : List ℤ) (r k : ℕ) → ltZ (register g r) (pos 0) ≡ true → move (Skip r k) g ≡ go g k
+unfolding move
+skip-below g r k e = rw e
+
+skip-not-below : (g : List ℤ) (r k : ℕ) → ltZ (register g r) (pos 0) ≡ false → move (Skip r k) g ≡ go g 0
+unfolding move
+skip-not-below g r k e = rw e
 
 -- ---- the limits of each kind
 
@@ -198,22 +214,22 @@ returns-5 c =
     )
 
 returns-6 : tie.Need-returns-6
-unfolding move
 returns-6 c =
     let s = c .before .before .before .before .before .before in
     let a = s .args in
+    let x = c .before .before .before .before .op6 .given in
     let p = s .pre in (
-      rw (c .before .before .before .before .op6 .given .1, rw (read-back (c .before .before .if12 .given)) at (c .before .if1 .taken)) (went (table-of (now (a .table))) (a .c) (now (a .registers)) (now (a .ro)) (now (a .rv)) (now (a .wo)) (now (a .wv)) _ (c .advance .result) (now (a .registers)) (c .advance .ensures)),
+      rw (x .1, skip-below (now (a .registers)) (x .0 .0) (x .0 .1 .0) (rw (read-back (c .before .before .if12 .given)) at (c .before .if1 .taken))) (went (table-of (now (a .table))) (a .c) (now (a .registers)) (now (a .ro)) (now (a .rv)) (now (a .wo)) (now (a .wv)) _ (c .advance .result) (now (a .registers)) (c .advance .ensures)),
       record { bounded = bounded-advanced _ (a .c) (c .advance .result) (c .advance .ensures) (p .0 .bounded); read-room = p .0 .read-room; write-room = p .0 .write-room },
     )
 
 returns-7 : tie.Need-returns-7
-unfolding move
 returns-7 c =
     let s = c .before .before .before .before .before .before in
     let a = s .args in
+    let x = c .before .before .before .before .op6 .given in
     let p = s .pre in (
-      rw (c .before .before .before .before .op6 .given .1, rw (read-back (c .before .before .if12 .given)) at (c .before .if1 .left)) (went (table-of (now (a .table))) (a .c) (now (a .registers)) (now (a .ro)) (now (a .rv)) (now (a .wo)) (now (a .wv)) 0 (c .advance2 .result) (now (a .registers)) (c .advance2 .ensures)),
+      rw (x .1, skip-not-below (now (a .registers)) (x .0 .0) (x .0 .1 .0) (rw (read-back (c .before .before .if12 .given)) at (c .before .if1 .left))) (went (table-of (now (a .table))) (a .c) (now (a .registers)) (now (a .ro)) (now (a .rv)) (now (a .wo)) (now (a .wv)) 0 (c .advance2 .result) (now (a .registers)) (c .advance2 .ensures)),
       record { bounded = bounded-advanced 0 (a .c) (c .advance2 .result) (c .advance2 .ensures) (p .0 .bounded); read-room = p .0 .read-room; write-room = p .0 .write-room },
     )
 

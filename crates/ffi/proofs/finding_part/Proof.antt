@@ -1,5 +1,4 @@
 -- `ffi::finding_part` gives the part where the found body stands. Assumes nothing.
-use mathlib.Core.Path.{refl}
 use native.Mathlib.Omega.{arith}
 use borrow.Author.Needs.{needs}
 use Rattle.model.specs.Limits.{standard}

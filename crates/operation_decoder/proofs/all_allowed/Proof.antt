@@ -1,5 +1,5 @@
 -- `operation_decoder::all_allowed` meets its contract: where the plain kinds do not decide, the columns do.
-use mathlib.Core.Path.{_≡_, sym}
+use mathlib.Core.Path.{sym}
 use borrow.Author.Needs.{needs}
 use Rattle.operation_decoder.proofs.all_allowed.Statement.{statement}
 use Rattle.operation_decoder.proofs.all_allowed.Tie as tie

@@ -1,5 +1,5 @@
 -- `operation_decoder::decode` meets its contract: each refusal is one of the parts of `is-well-formed`, in their order. Assumes nothing.
-use Prim.Native.Nat.{ℕ, _+_, _*_}
+use Prim.Native.Nat.{_+_, _*_}
 use mathlib.Core.Path.{_≡_, sym, ap}
 use mathlib.Core.Bool.{and-false}
 use native.Mathlib.Omega.{arith}

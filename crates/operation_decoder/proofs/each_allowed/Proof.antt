@@ -7,7 +7,6 @@ use mathlib.Core.List.{List}
 use native.Mathlib.Numerals.{add-one}
 use native.Mathlib.Omega.{arith}
 use denote.Ref.{now}
-use borrow.Author.Needs.{needs}
 use borrow.Author.Tests.{not-true, not-false}
 use Rattle.operation.specs.Body.{allowed-at, each}
 use Rattle.operation.specs.Columns.{tested, tested-at, times, no-kind, stops}

@@ -1,6 +1,5 @@
 -- `replica_calls::close_reader` meets its contract: where the areas have the shape, `snapshots::close_reader`, which leaves the bodies alone. Assumes nothing.
 use mathlib.Core.Path.{sym, _∙_}
-use native.Mathlib.Omega.{arith}
 use denote.Ref.{now}
 use borrow.Author.Needs.{needs}
 use Rattle.model.specs.Calls.{close-reader}

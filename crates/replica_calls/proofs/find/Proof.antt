@@ -1,7 +1,6 @@
 -- `replica_calls::find` meets its contract: where the areas have the shape, `queue::find`, which changes nothing. Assumes nothing.
 use mathlib.Core.Path.{sym, _∙_}
 use denote.Ref.{now}
-use borrow.Author.Needs.{needs}
 use Rattle.model.specs.Calls.{find}
 use Rattle.layout.specs.Contract.{met-unfit}
 use Rattle.replica_calls.proofs.find.Statement.{statement}

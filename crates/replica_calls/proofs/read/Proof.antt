@@ -1,7 +1,6 @@
 -- `replica_calls::read` meets its contract: where the areas have the shape, `snapshots::read`, which changes nothing. Assumes nothing.
 use mathlib.Core.Path.{sym, _∙_}
 use denote.Ref.{now}
-use borrow.Author.Needs.{needs}
 use Rattle.model.specs.Calls.{read}
 use Rattle.layout.specs.Contract.{holds-shaped, met-unfit}
 use Rattle.replica_calls.proofs.read.Statement.{statement}

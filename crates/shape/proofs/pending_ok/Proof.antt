@@ -1,6 +1,6 @@
 -- `shape::pending_ok` meets its contract: a law for each answer.
 use mathlib.Core.Path.{_≡_, ap, _∙_}
-use Prim.Native.Nat.{ℕ, _*_}
+use Prim.Native.Nat.{ℕ}
 use native.Mathlib.Nat.{mul-le-mul-right}
 use native.Mathlib.Omega.{arith}
 use lib.ListN.{getD}
@@ -17,8 +17,8 @@ use Rattle.shape.proofs.pending_ok.Tie as tie
 abbrev start : tie.After-get → tie.Start
 start c = c .before .before .before .before
 
-pending : (c : tie.After-get) → (let a = start c .args in c .get .result ≡ pending-in (a .l) (cells (a .area .now)))
-pending c = c .get .ensures ∙ ap (λ (i : ℕ). getD (cells (start c .args .area .now)) i 0) (c .before .pending-at .ensures .exact)
+pending : (c : tie.After-get) → (let a = start c .args in c .get .result ≡ pending-in (a .l) (cells (a .records .now)))
+pending c = c .get .ensures ∙ ap (λ (i : ℕ). getD (cells (start c .args .records .now)) i 0) (c .before .pending-at .ensures .exact)
 
 abbrev few : tie.After-body-at → tie.Else1
 few c = c .before .before .before
@@ -36,7 +36,7 @@ returns : tie.Need-returns
 returns c =
     let k = c .before .before in
     let a = start k .args in
-    pending-many (a .l) (a .area .now) (a .bodies .now) (k .get .result) (pending k) (c .if1 .taken)
+    pending-many (a .l) (a .records .now) (a .bodies .now) (k .get .result) (pending k) (c .if1 .taken)
 
 row-at-requires : tie.Need-row-at-requires
 row-at-requires c κs = search needs
@@ -82,7 +82,7 @@ returns-2 c =
     let a = d .args in
     let p = at-used .used-ok in
     let q = at-zero .all-zero in
-    pending-bodies (a .l) (a .area .now) (a .bodies .now) (k .get .result) (pending k) (few at-body .if1 .left) (p .result) (p .ensures) (at-zero .before .if2 .taken) (g .result) (t .result) (omega (arith, t .ensures .inside, d .pre .0 .whole)) (g .ensures .exact) (t .ensures .exact)
+    pending-bodies (a .l) (a .records .now) (a .bodies .now) (k .get .result) (pending k) (few at-body .if1 .left) (p .result) (p .ensures) (at-zero .before .if2 .taken) (g .result) (t .result) (omega (arith, t .ensures .inside, d .pre .0 .whole)) (g .ensures .exact) (t .ensures .exact)
     (q .result) (q .ensures) (c .before .if3 .taken) (b .result) (b .ensures .exact) (c .all-zero2 .result) (c .all-zero2 .ensures)
 
 returns-3 : tie.Need-returns-3
@@ -97,7 +97,7 @@ returns-3 c =
     let a = d .args in
     let p = at-used .used-ok in
     let q = at-zero .all-zero in
-    pending-behind (a .l) (a .area .now) (a .bodies .now) (k .get .result) (pending k) (few at-body .if1 .left) (p .result) (p .ensures) (at-zero .before .if2 .taken) (g .result) (t .result) (omega (arith, t .ensures .inside, d .pre .0 .whole)) (g .ensures .exact) (t .ensures .exact)
+    pending-behind (a .l) (a .records .now) (a .bodies .now) (k .get .result) (pending k) (few at-body .if1 .left) (p .result) (p .ensures) (at-zero .before .if2 .taken) (g .result) (t .result) (omega (arith, t .ensures .inside, d .pre .0 .whole)) (g .ensures .exact) (t .ensures .exact)
     (q .result) (q .ensures) (c .if3 .left)
 
 returns-4 : tie.Need-returns-4
@@ -107,7 +107,7 @@ returns-4 c =
     let k = count at-body in
     let a = start k .args in
     let p = at-used .used-ok in
-    pending-rows (a .l) (a .area .now) (a .bodies .now) (k .get .result) (pending k) (few at-body .if1 .left) (p .result) (p .ensures) (c .if2 .left)
+    pending-rows (a .l) (a .records .now) (a .bodies .now) (k .get .result) (pending k) (few at-body .if1 .left) (p .result) (p .ensures) (c .if2 .left)
 
 pub pending-ok-spec : {M : Type 1} → statement M
 pending-ok-spec =

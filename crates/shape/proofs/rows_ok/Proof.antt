@@ -1,12 +1,9 @@
 -- `shape::rows_ok` meets its contract: a law for each answer.
-use mathlib.Core.Path.{ap, _∙_}
-use Prim.Native.Nat.{ℕ}
 use native.Mathlib.Omega.{arith}
 use native.Mathlib.Nat.{mul-assoc}
 use borrow.Author.Needs.{needs}
 use Rattle.cells.specs.Cells.{cells}
 use Rattle.shape_row.specs.RowScan.{cells-of}
-use Rattle.shape_keys.specs.Keys.{lone-in}
 use Rattle.shape.specs.RowLoop.{rows-each, rows-keys}
 use Rattle.shape.proofs.rows_ok.Statement.{statement}
 use Rattle.shape.proofs.rows_ok.Tie as tie

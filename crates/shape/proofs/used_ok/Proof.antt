@@ -1,6 +1,6 @@
 -- `shape::used_ok` meets its contract: what `rows_ok` says of the parts that are lent to it.
-use mathlib.Core.Path.{_≡_, ap, _∙_}
-use Prim.Native.Nat.{ℕ, _*_}
+use mathlib.Core.Path.{ap, _∙_}
+use Prim.Native.Nat.{ℕ}
 use native.Mathlib.Nat.{mul-le-mul-right}
 use native.Mathlib.Omega.{arith}
 use lib.ListN.{getD, length-take, length-drop}
@@ -84,8 +84,8 @@ returns c =
     let f = at-row .row-at in
     let r = at-row .before .reader-at in
     let x = at-last .last-at in
-    let size = n .get .ensures ∙ ap (λ (i : ℕ). getD (cells (a .area .now)) i 0) (n .before .size-at .ensures .exact) in
-    c .rows-ok .ensures ∙ used-here (a .l) (a .area .now) (a .bodies .now) (a .count) (n .get .result) (x .result) (r .result) (f .result) size (x .ensures .exact) (r .ensures .exact) (f .ensures .exact)
+    let size = n .get .ensures ∙ ap (λ (i : ℕ). getD (cells (a .records .now)) i 0) (n .before .size-at .ensures .exact) in
+    c .rows-ok .ensures ∙ used-here (a .l) (a .records .now) (a .bodies .now) (a .count) (n .get .result) (x .result) (r .result) (f .result) size (x .ensures .exact) (r .ensures .exact) (f .ensures .exact)
 
 pub used-ok-spec : {M : Type 1} → statement M
 used-ok-spec =

@@ -1,5 +1,5 @@
 -- `shape_keys::distinct` meets its contract. Invariant: `Marked`. The measure is the number of keys left.
-use mathlib.Core.Path.{_≡_, refl}
+use mathlib.Core.Path.{refl}
 use Prim.Native.Nat.{_-_}
 use native.Mathlib.Omega.{arith}
 use borrow.Author.Needs.{needs}
@@ -10,10 +10,10 @@ use Rattle.shape_keys.proofs.distinct.Statement.{statement}
 use Rattle.shape_keys.proofs.distinct.Tie as tie
 
 abbrev Inv-loop : tie.InvT-loop
-Inv-loop area width count marks₀ at₀ i₀ marks at i = Marked width count (cells area) marks at i
+Inv-loop rows width count marks₀ at₀ i₀ marks at i = Marked width count (cells rows) marks at i
 
 abbrev μ-loop : tie.MeasureT-loop
-μ-loop area width count marks₀ at₀ i₀ marks at i = count - i
+μ-loop rows width count marks₀ at₀ i₀ marks at i = count - i
 
 loop-holds : tie.Need-loop-holds Inv-loop μ-loop
 unfolding each
@@ -56,7 +56,7 @@ loop-again c = let i = c .before .before .before .before .before .loop in
     let k = c .before .before .before .get in
     let m = c .before .before .mark-of in
     let p = c .before .is-new in
-    marked-on (a .width) (a .count) (cells (a .area .now)) (d .pre .0) (i .marks) (i .at) (i .i) (i .inv) (c .before .before .before .before .loop-test .taken) (k .result) (m .result) (k .ensures) (m .ensures .0) (m .ensures .1) (p .result) (p .ensures) (c .if1 .taken)
+    marked-on (a .width) (a .count) (cells (a .rows .now)) (d .pre .0) (i .marks) (i .at) (i .i) (i .inv) (c .before .before .before .before .loop-test .taken) (k .result) (m .result) (k .ensures) (m .ensures .0) (m .ensures .1) (p .result) (p .ensures) (c .if1 .taken)
 
 returns : tie.Need-returns Inv-loop μ-loop
 returns c = let i = c .before .before .before .before .before .loop in
@@ -65,13 +65,13 @@ returns c = let i = c .before .before .before .before .before .loop in
     let k = c .before .before .before .get in
     let m = c .before .before .mark-of in
     let p = c .before .is-new in
-    marked-no (a .width) (a .count) (cells (a .area .now)) (d .pre .0) (i .marks) (i .at) (i .i) (i .inv) (c .before .before .before .before .loop-test .taken) (k .result) (m .result) (k .ensures) (m .ensures .0) (m .ensures .1) (p .result) (p .ensures) (c .if1 .left)
+    marked-no (a .width) (a .count) (cells (a .rows .now)) (d .pre .0) (i .marks) (i .at) (i .i) (i .inv) (c .before .before .before .before .loop-test .taken) (k .result) (m .result) (k .ensures) (m .ensures .0) (m .ensures .1) (p .result) (p .ensures) (c .if1 .left)
 
 returns-2 : tie.Need-returns-2 Inv-loop μ-loop
 returns-2 c = let i = c .before .loop in
     let d = c .before .before .before in
     let a = d .args in
-    marked-end (a .width) (a .count) (cells (a .area .now)) (d .pre .0) (i .marks) (i .at) (i .i) (i .inv) (c .loop-test .left)
+    marked-end (a .width) (a .count) (cells (a .rows .now)) (d .pre .0) (i .marks) (i .at) (i .i) (i .inv) (c .loop-test .left)
 
 pub distinct-spec : {M : Type 1} → statement M
 distinct-spec =

@@ -1,9 +1,5 @@
 -- `shape_keys::is_new` meets its contract: a case for each answer.
-use mathlib.Core.Path.{_≡_, refl, sym, ap, _∙_}
-use mathlib.Core.Bool.{Bool, true, cond}
 use borrow.Author.Needs.{needs}
-use Rattle.cells.specs.Cells.{cells}
-use Rattle.layout.specs.Rows.{chunks}
 use Rattle.shape_row.specs.RowScan.{absent}
 use Rattle.shape_keys.proofs.is_new.Statement.{statement}
 use Rattle.shape_keys.proofs.is_new.Tie as tie

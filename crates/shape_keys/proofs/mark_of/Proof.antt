@@ -1,5 +1,4 @@
 -- `shape_keys::mark_of` meets its contract: by arithmetic.
-use native.Mathlib.Omega.{arith}
 use borrow.Author.Needs.{needs}
 use Rattle.shape_keys.specs.Keys.{mark}
 use Rattle.shape_keys.proofs.mark_of.Statement.{statement}

@@ -10,10 +10,10 @@ use Rattle.shape_objects.proofs.all_below.Statement.{statement}
 use Rattle.shape_objects.proofs.all_below.Tie as tie
 
 abbrev Inv-loop : tie.InvT-loop
-Inv-loop area count bound i₀ i = (i ≤ count) × (below bound (cells area) ≡ below bound (drop i (cells area)))
+Inv-loop part count bound i₀ i = (i ≤ count) × (below bound (cells part) ≡ below bound (drop i (cells part)))
 
 abbrev μ-loop : tie.MeasureT-loop
-μ-loop area count bound i₀ i = count - i
+μ-loop part count bound i₀ i = count - i
 
 loop-holds : tie.Need-loop-holds Inv-loop μ-loop
 loop-holds c = (search needs, refl)
@@ -24,7 +24,7 @@ get-requires c κs = search needs
 returns : tie.Need-returns Inv-loop μ-loop
 returns c = let a = c .before .before .before .before .before in
     let i = c .before .before .before .loop in
-    sym (i .inv .1 ∙ below-no (a .args .area .now) (a .args .count) (a .pre) (a .args .bound) (i .i) (search needs) (c .before .get .result) (c .before .get .ensures) (c .if1 .taken))
+    sym (i .inv .1 ∙ below-no (a .args .part .now) (a .args .count) (a .pre) (a .args .bound) (i .i) (search needs) (c .before .get .result) (c .before .get .ensures) (c .if1 .taken))
 
 add-i : tie.Need-add-i Inv-loop μ-loop
 add-i c = search needs
@@ -35,12 +35,12 @@ loop-less c = search needs
 loop-again : tie.Need-loop-again Inv-loop μ-loop
 loop-again c = let a = c .before .before .before .before .before in
     let i = c .before .before .before .loop in
-    (search needs, i .inv .1 ∙ below-on (a .args .area .now) (a .args .count) (a .pre) (a .args .bound) (i .i) (search needs) (c .before .get .result) (c .before .get .ensures) (c .if1 .left))
+    (search needs, i .inv .1 ∙ below-on (a .args .part .now) (a .args .count) (a .pre) (a .args .bound) (i .i) (search needs) (c .before .get .result) (c .before .get .ensures) (c .if1 .left))
 
 returns-2 : tie.Need-returns-2 Inv-loop μ-loop
 returns-2 c = let a = c .before .before .before in
     let i = c .before .loop in
-    sym (i .inv .1 ∙ below-end (a .args .area .now) (a .args .count) (a .pre) (a .args .bound) (i .i) (search needs))
+    sym (i .inv .1 ∙ below-end (a .args .part .now) (a .args .count) (a .pre) (a .args .bound) (i .i) (search needs))
 
 pub all-below-spec : {M : Type 1} → statement M
 all-below-spec =

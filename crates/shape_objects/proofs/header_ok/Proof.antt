@@ -11,7 +11,7 @@ returns : tie.Need-returns
 returns c =
     let at-get = c .before in
     let a = at-get .before .before .args in
-    header-late (a .l) (a .area .now) (at-get .get .result) (at-get .get .ensures) (c .if1 .taken)
+    header-late (a .l) (a .records .now) (at-get .get .result) (at-get .get .ensures) (c .if1 .taken)
 
 last-at-requires : tie.Need-last-at-requires
 last-at-requires c κs = search needs
@@ -72,7 +72,7 @@ returns-2 c =
     let g = at-size .before .reader-at in
     let s = at-size .size-at in
     let p = at-lasts .all-below in
-    header-readers (a .l) (a .area .now) (at-get .get .result) (at-get .get .ensures) (early .if1 .left) (f .result) (g .result) (s .result) (f .ensures .exact) (g .ensures .exact) (s .ensures .exact)
+    header-readers (a .l) (a .records .now) (at-get .get .result) (at-get .get .ensures) (early .if1 .left) (f .result) (g .result) (s .result) (f .ensures .exact) (g .ensures .exact) (s .ensures .exact)
     (p .result) (p .ensures) (c .before .before .if2 .taken) (c .all-below2 .result) (c .all-below2 .ensures)
 
 returns-3 : tie.Need-returns-3
@@ -86,7 +86,7 @@ returns-3 c =
     let g = at-size .before .reader-at in
     let s = at-size .size-at in
     let p = at-lasts .all-below in
-    header-lasts (a .l) (a .area .now) (at-get .get .result) (at-get .get .ensures) (early .if1 .left) (f .result) (g .result) (s .result) (f .ensures .exact) (g .ensures .exact) (s .ensures .exact) (p .result) (p .ensures) (c .if2 .left)
+    header-lasts (a .l) (a .records .now) (at-get .get .result) (at-get .get .ensures) (early .if1 .left) (f .result) (g .result) (s .result) (f .ensures .exact) (g .ensures .exact) (s .ensures .exact) (p .result) (p .ensures) (c .if2 .left)
 
 pub header-ok-spec : {M : Type 1} → statement M
 header-ok-spec =

@@ -1,6 +1,6 @@
 -- `shape_objects::objects_ok` meets its contract: a law for each answer.
 use mathlib.Core.Path.{_≡_, ap, _∙_}
-use Prim.Native.Nat.{ℕ, _*_, _-_, _≤_}
+use Prim.Native.Nat.{ℕ, _*_, _-_}
 use native.Mathlib.Nat.{mul-le-mul-right}
 use native.Mathlib.Omega.{arith}
 use lib.ListN.{getD, length-take, length-drop}
@@ -19,8 +19,8 @@ use Rattle.shape_objects.proofs.objects_ok.Tie as tie
 abbrev start : tie.After-get → tie.Start
 start c = c .before .before .before
 
-size : (c : tie.After-get) → (let a = start c .args in c .get .result ≡ size-in (a .l) (cells (a .area .now)))
-size c = c .get .ensures ∙ ap (λ (i : ℕ). getD (cells (start c .args .area .now)) i 0) (c .before .size-at .ensures .exact)
+size : (c : tie.After-get) → (let a = start c .args in c .get .result ≡ size-in (a .l) (cells (a .records .now)))
+size c = c .get .ensures ∙ ap (λ (i : ℕ). getD (cells (start c .args .records .now)) i 0) (c .before .size-at .ensures .exact)
 
 size-at-requires : tie.Need-size-at-requires
 size-at-requires c κs = search needs
@@ -32,14 +32,14 @@ returns : tie.Need-returns
 returns c =
     let n = c .before in
     let a = start n .args in
-    objects-none (a .l) (a .area .now) (n .get .result) (size n) (c .if1 .taken)
+    objects-none (a .l) (a .records .now) (n .get .result) (size n) (c .if1 .taken)
 
 returns-2 : tie.Need-returns-2
 returns-2 c =
     let one = c .before .before in
     let n = one .before in
     let a = start n .args in
-    objects-many (a .l) (a .area .now) (n .get .result) (size n) (one .if1 .left) (c .if2 .taken)
+    objects-many (a .l) (a .records .now) (n .get .result) (size n) (one .if1 .left) (c .if2 .taken)
 
 get-requires-2 : tie.Need-get-requires-2
 get-requires-2 c κs = search needs
@@ -135,7 +135,7 @@ returns-3 c =
     let s = n .before .size-at in
     let t = at-time .get2 in
     let p = at-objects .objects-ok in
-    objects-behind (a .l) (a .area .now) (n .get .result) (size n) (one .if1 .left) (few .if2 .left) (t .result) (r .result) (s .result) (f .result) (g .result) (t .ensures) (r .ensures .exact) (s .ensures .exact) (f .ensures .exact) (g .ensures .exact)
+    objects-behind (a .l) (a .records .now) (n .get .result) (size n) (one .if1 .left) (few .if2 .left) (t .result) (r .result) (s .result) (f .result) (g .result) (t .ensures) (r .ensures .exact) (s .ensures .exact) (f .ensures .exact) (g .ensures .exact)
     (p .result) (p .ensures) (c .before .if3 .taken) (b .result) (b .ensures .exact) (omega (arith, b .ensures .inside, d .pre .0 .whole)) (c .all-zero .result) (c .all-zero .ensures)
 
 returns-4 : tie.Need-returns-4
@@ -153,7 +153,7 @@ returns-4 c =
     let s = n .before .size-at in
     let t = at-time .get2 in
     let p = at-objects .objects-ok in
-    objects-versions (a .l) (a .area .now) (n .get .result) (size n) (one .if1 .left) (few .if2 .left) (t .result) (r .result) (s .result) (f .result) (g .result) (t .ensures) (r .ensures .exact) (s .ensures .exact) (f .ensures .exact) (g .ensures .exact) (p .result) (p .ensures) (c .if3 .left)
+    objects-versions (a .l) (a .records .now) (n .get .result) (size n) (one .if1 .left) (few .if2 .left) (t .result) (r .result) (s .result) (f .result) (g .result) (t .ensures) (r .ensures .exact) (s .ensures .exact) (f .ensures .exact) (g .ensures .exact) (p .result) (p .ensures) (c .if3 .left)
 
 pub objects-ok-spec : {M : Type 1} → statement M
 objects-ok-spec =

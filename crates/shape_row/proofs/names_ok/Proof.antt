@@ -1,5 +1,5 @@
 -- `shape_row::names_ok` meets its contract: the entries by their number.
-use mathlib.Core.Path.{_≡_, sym, ap, _∙_}
+use mathlib.Core.Path.{sym, ap, _∙_}
 use Prim.Native.Nat.{ℕ}
 use borrow.Author.Needs.{needs}
 use Rattle.cells.specs.Cells.{cells}

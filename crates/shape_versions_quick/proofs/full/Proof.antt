@@ -1,6 +1,6 @@
 -- `shape_versions_quick::full` meets its contract. Invariant: where all readers asked so far see their versions, those before the k-th are held. The measure
 -- is what is left of the versions.
-use Prim.Native.Nat.{ℕ, _≤_, _-_}
+use Prim.Native.Nat.{_≤_, _-_}
 use mathlib.Core.Path.{refl}
 use native.Mathlib.Omega.{arith}
 use borrow.Author.Needs.{needs}

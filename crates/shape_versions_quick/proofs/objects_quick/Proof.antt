@@ -1,7 +1,7 @@
 -- `shape_versions_quick::objects_quick` meets its contract. Invariant: the rules hold of all blocks if they hold of those left, from byte at on. The measure is their number.
 use mathlib.Core.Path.{_≡_, refl, _∙_, sym}
 use mathlib.Core.Bool.{true, true≢false}
-use Prim.Native.Nat.{ℕ, _+_, _*_, _-_}
+use Prim.Native.Nat.{_+_, _*_, _-_}
 use native.Mathlib.Omega.{arith}
 use lib.ListN.{length-take, length-drop, length, drop}
 use borrow.Author.Needs.{needs}

@@ -1,7 +1,7 @@
 -- `versions_close::prune_objects` meets its contract. Invariant: what stands in front is done, from byte at on nothing has changed, and the blocks that
 -- are left passed the check. The measure is the number of blocks left.
 use mathlib.Core.Path.{_≡_, refl}
-use Prim.Native.Nat.{ℕ, _+_, _*_, _-_, _≤_}
+use Prim.Native.Nat.{_+_, _*_, _-_}
 use native.Mathlib.Omega.{arith}
 use lib.ListN.{length, length-take, length-drop}
 use borrow.Author.Needs.{needs}

@@ -1,6 +1,6 @@
 -- `text::numerals::put_numbers` meets its contract. The loop's invariant: the numbers before i, the first aside, stand behind what was there before the loop.
 -- The measure is how many numbers are left. Assumes nothing.
-use Prim.Native.Nat.{ℕ, _-_, _≤_}
+use Prim.Native.Nat.{_-_, _≤_}
 use mathlib.Core.Path.{_≡_, refl}
 use native.Mathlib.Omega.{arith}
 use lib.ListN.{length, take, drop}
