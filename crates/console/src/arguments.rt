@@ -53,6 +53,7 @@ pub fn last_number(line: &[u8], at: usize, name: Name) -> Single {
     }
 }
 
+// Two numbers, one behind the other; the first wrong one is told.
 pub fn two_numbers(line: &[u8], at: usize, first: Name, second: Name) -> Pair {
     match number(line, at, first) {
         Single::Is(a, behind) => match number(line, behind, second) {
@@ -63,6 +64,7 @@ pub fn two_numbers(line: &[u8], at: usize, first: Name, second: Name) -> Pair {
     }
 }
 
+// Two numbers that are the line's last words.
 pub fn last_two_numbers(line: &[u8], at: usize, first: Name, second: Name) -> Pair {
     match two_numbers(line, at, first, second) {
         Pair::Are(a, b, behind) => {

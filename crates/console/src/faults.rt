@@ -28,6 +28,7 @@ pub enum Fault {
     Beyond,
 }
 
+// An argument's name, as the README has it.
 fn put_name(out: &mut [u8], at: usize, name: Name) -> usize {
     match name {
         Name::Objects => buffer::put(out, at, b"n"),
@@ -42,11 +43,13 @@ fn put_name(out: &mut [u8], at: usize, name: Name) -> usize {
     }
 }
 
+// What is wrong with an argument that should be a number.
 fn put_number_fault(out: &mut [u8], at: usize, name: Name) -> usize {
     let behind = put_name(out, at, name);
     buffer::put(out, behind, b": not a number from 0 to 4294967295")
 }
 
+// What is wrong with a start value, by its place among them.
 fn put_value_fault(out: &mut [u8], at: usize, place: u64) -> usize {
     let named = buffer::put(out, at, b"value ");
     let behind = numerals::put_unsigned(out, named, place);
@@ -57,6 +60,7 @@ fn put_value_fault(out: &mut [u8], at: usize, place: u64) -> usize {
     )
 }
 
+// What is wrong with a line.
 fn put_fault(out: &mut [u8], at: usize, fault: Fault) -> usize {
     match fault {
         Fault::LongLine => buffer::put(out, at, b"longer than 131071 bytes"),

@@ -21,6 +21,7 @@ pub fn put_reply(out: &mut [u8], r: Reply) -> usize
     }
 }
 
+// Work's: operations carried out, pending transactions finished.
 pub fn put_execution(out: &mut [u8], r: Execution) -> usize
     ensures { λ n. ⌜ Answered (now (out .entry)) (execute 0) (execution r) (now (out .exit)) n ⌝ }
 {
@@ -32,6 +33,7 @@ pub fn put_execution(out: &mut [u8], r: Execution) -> usize
     }
 }
 
+// A final delivery's: outcome, kept (1) or run again (0), new stamp, number of objects stored.
 pub fn put_delivery(out: &mut [u8], r: Delivery) -> usize
     ensures { λ n. ⌜ Answered (now (out .entry)) (final 0 0) (delivery r) (now (out .exit)) n ⌝ }
 {
@@ -50,6 +52,7 @@ pub fn put_delivery(out: &mut [u8], r: Delivery) -> usize
     }
 }
 
+// Read's: the value.
 pub fn put_reading(out: &mut [u8], r: Reading) -> usize
     ensures { λ n. ⌜ Answered (now (out .entry)) (read 0 0) (reading r) (now (out .exit)) n ⌝ }
 {
@@ -59,6 +62,7 @@ pub fn put_reading(out: &mut [u8], r: Reading) -> usize
     }
 }
 
+// Find's: place in the optimistic order, length of the body.
 pub fn put_finding(out: &mut [u8], r: Finding) -> usize
     ensures { λ n. ⌜ Answered (now (out .entry)) (find 0 0) (finding r) (now (out .exit)) n ⌝ }
 {

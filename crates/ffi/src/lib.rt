@@ -54,6 +54,7 @@ pub struct Part {
     pub length: u32,
 }
 
+// An answer that is 0 or a refusal, as its number.
 fn reply_number(r: Reply) -> u32
     ensures { λ n. ⌜ Numbered 0 (lone n) (reply r) ⌝ }
 {
@@ -63,6 +64,7 @@ fn reply_number(r: Reply) -> u32
     }
 }
 
+// Work's answer in the paper's numbers.
 fn execution_numbers(e: Execution) -> Executed
     ensures { λ r. ⌜ Numbered 2 (executed r) (execution e) ⌝ }
 {
@@ -80,6 +82,7 @@ fn execution_numbers(e: Execution) -> Executed
     }
 }
 
+// A final delivery's answer in the paper's numbers.
 fn delivery_numbers(d: Delivery) -> Committed
     ensures { λ r. ⌜ Numbered 4 (committed r) (delivery d) ⌝ }
 {
@@ -101,6 +104,7 @@ fn delivery_numbers(d: Delivery) -> Committed
     }
 }
 
+// Read's answer in the paper's numbers.
 fn reading_numbers(r: Reading) -> Valued
     ensures { λ v. ⌜ Numbered 1 (valued v) (reading r) ⌝ }
 {
@@ -113,6 +117,7 @@ fn reading_numbers(r: Reading) -> Valued
     }
 }
 
+// Find's answer in the paper's numbers.
 fn finding_numbers(f: Finding) -> Found
     ensures { λ r. ⌜ Numbered 2 (found r) (finding f) ⌝ }
 {
@@ -130,16 +135,16 @@ fn finding_numbers(f: Finding) -> Found
     }
 }
 
-// The part of the body area where the found body stands. A place has 177 bytes.
+// The part of the body area where the found body stands.
 fn finding_part(f: Finding) -> Part
     requires { ⌜ Low standard f ⌝ }
     ensures { λ r. ⌜ (r .start, r .length) ≡ part standard (finding f) ⌝ }
 {
     match f {
-        Finding::Found(position, length) => Part {
-            start: position.0 * 177,
-            length,
-        },
+        Finding::Found(position, length) => {
+            let start = layout::body_at(replica::STANDARD, position.0 as usize) as u32;
+            Part { start, length }
+        }
         Finding::Refused(_) => Part {
             start: 0,
             length: 0,
@@ -163,6 +168,7 @@ pub extern "C" fn jobstore_bodies_length() -> u32
     layout::bodies_length(replica::STANDARD) as u32
 }
 
+// Open: n start values and a start stamp.
 #[no_mangle]
 pub extern "C" fn jobstore_open(
     records: &mut [u8],
@@ -177,6 +183,7 @@ pub extern "C" fn jobstore_open(
     reply_number(replica::open(records, bodies, n, values, stamp))
 }
 
+// Early delivery of a key and its body.
 #[no_mangle]
 pub extern "C" fn jobstore_early(
     records: &mut [u8],
@@ -191,6 +198,7 @@ pub extern "C" fn jobstore_early(
     reply_number(replica::deliver_optimistic(records, bodies, client, sequence, body))
 }
 
+// Work of at most count operations.
 #[no_mangle]
 pub extern "C" fn jobstore_work(records: &mut [u8], bodies: &[u8], count: u32) -> Executed
     ensures { λ r. ⌜ Exported (execute count) (now (records .entry), now (bodies .entry)) (executed r) (now (records .exit), now (bodies .entry)) ⌝ }
@@ -198,6 +206,7 @@ pub extern "C" fn jobstore_work(records: &mut [u8], bodies: &[u8], count: u32) -
     execution_numbers(replica::execute(records, bodies, count))
 }
 
+// Final delivery of a key.
 #[no_mangle]
 pub extern "C" fn jobstore_final(
     records: &mut [u8],
@@ -210,6 +219,7 @@ pub extern "C" fn jobstore_final(
     delivery_numbers(replica::deliver_final(records, bodies, client, sequence))
 }
 
+// Open reader.
 #[no_mangle]
 pub extern "C" fn jobstore_open_reader(records: &mut [u8], bodies: &[u8], reader: u32) -> u32
     ensures { λ r. ⌜ Exported (open-reader reader) (now (records .entry), now (bodies .entry)) (lone r) (now (records .exit), now (bodies .entry)) ⌝ }
@@ -217,6 +227,7 @@ pub extern "C" fn jobstore_open_reader(records: &mut [u8], bodies: &[u8], reader
     reply_number(replica::open_reader(records, bodies, reader))
 }
 
+// Read: an object as of the reader's stamp.
 #[no_mangle]
 pub extern "C" fn jobstore_read(records: &[u8], bodies: &[u8], reader: u32, object: u32) -> Valued
     ensures { λ r. ⌜ Exported (read reader object) (now (records .entry), now (bodies .entry)) (valued r) (now (records .entry), now (bodies .entry)) ⌝ }
@@ -224,6 +235,7 @@ pub extern "C" fn jobstore_read(records: &[u8], bodies: &[u8], reader: u32, obje
     reading_numbers(replica::read(records, bodies, reader, object))
 }
 
+// Close a reader.
 #[no_mangle]
 pub extern "C" fn jobstore_close_reader(records: &mut [u8], bodies: &[u8], reader: u32) -> u32
     ensures { λ r. ⌜ Exported (close-reader reader) (now (records .entry), now (bodies .entry)) (lone r) (now (records .exit), now (bodies .entry)) ⌝ }
@@ -231,6 +243,7 @@ pub extern "C" fn jobstore_close_reader(records: &mut [u8], bodies: &[u8], reade
     reply_number(replica::close_reader(records, bodies, reader))
 }
 
+// Find a pending key.
 #[no_mangle]
 pub extern "C" fn jobstore_find(records: &[u8], bodies: &[u8], client: u32, sequence: u32) -> Found
     ensures { λ r. ⌜ Exported (find client sequence) (now (records .entry), now (bodies .entry)) (found r) (now (records .entry), now (bodies .entry)) ⌝ }

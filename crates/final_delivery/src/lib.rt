@@ -28,6 +28,7 @@ pub struct Decision {
     pub stored: usize,
 }
 
+// A run as what a delivery comes to: its outcome, and as many objects as its write set names.
 fn decided(t: Counts, validated: bool) -> Decision
     ensures { λ r. ⌜ r ≡ decision-of t validated ⌝ }
 {

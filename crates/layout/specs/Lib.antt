@@ -10,6 +10,7 @@ pub mod OffsetLaws
 pub mod Printable
 pub mod RoundTrips
 pub mod RowCells
+pub mod RowKeys
 pub mod Fields
 pub mod Holds
 pub mod Reading

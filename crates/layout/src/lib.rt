@@ -2,9 +2,14 @@
 // Offsets into the record area are in cells of 8 bytes, offsets into the body area and both lengths in bytes.
 use model::Limits;
 ghost use mathlib.Core.Path.{_≡_};
-ghost use Prim.Native.Nat.{_≤_};
+ghost use Prim.Native.Nat.{_*_, _≤_, _<_};
+ghost use lib.Dec.{eqb};
+ghost use lib.ListN.{length};
+ghost use Rattle.cells.specs.Cells.{cells};
+ghost use Rattle.model.specs.Lists.{index};
 ghost use Rattle.model.specs.Calls.{clients};
 ghost use Rattle.layout.specs.Layout.{of-key};
+ghost use Rattle.layout.specs.RowKeys.{keys};
 ghost use Rattle.layout.specs.Offsets.{Sane, CellAt, ByteAt, last-at, reader-at, size-at, object-width, object-at, pending-at};
 ghost use Rattle.layout.specs.Offsets.{row-width, row-at, record-length, body-width, body-at, bodies-length};
 
@@ -37,6 +42,23 @@ pub fn key_cell(client: u32, sequence: u32) -> u64
     ensures { λ r. ⌜ r ≡ of-key (client, sequence) ⌝ }
 {
     client as u64 * SEQUENCES + sequence as u64
+}
+
+// The index of the first of count blocks, of width cells each, that begins with key; count where there is none.
+pub fn key_index(blocks: &[u8], width: usize, count: usize, key: u64) -> usize
+    requires { ⌜ (0 < width) × (count * width * 8 ≤ length (now blocks)) ⌝ }
+    ensures { λ r. ⌜ r ≡ index (eqb key) (keys width count (cells (now (blocks .entry)))) ⌝ }
+{
+    let mut i = 0;
+    let mut at = 0;
+    while i < count {
+        if cells::get(blocks, at) == key {
+            return i;
+        }
+        i += 1;
+        at += width;
+    }
+    i
 }
 
 // Where a client's last number lies; with client the number of clients, where the readers begin.

@@ -11,7 +11,7 @@ use lib.IntN.{ℤ}
 use lib.Dec.{eqb, leb, ltb}
 use lib.ListN.{length, getD, set, length-map}
 use lib.Seq.{getD-set-same, getD-set-other}
-use borrow.Author.Tests.{eq-eqb, eqb-true, eqb-false, ne-eqb, not-true}
+use borrow.Author.Tests.{eqb-true, eqb-false, not-true}
 use Rattle.arith.specs.Integer.{fits}
 use Rattle.operation.specs.Body.{operations, is-well-formed}
 use Rattle.operation.specs.BodyLaws.{valid-drop}
@@ -24,7 +24,7 @@ use Rattle.model.specs.Lists.{pick, keep, any, all}
 use Rattle.model.specs.Calls.{Transaction, is-key, leaves, spent, clients, last-timestamp}
 use Rattle.model.specs.Serial.{Version, is-some}
 use Rattle.model.specs.Replica.{Pending, Replica, newest, opens, held, prune, pushed, install, table, program, finished, advance, used, worked, restarted, walk, pending-of, has-key, validated, result}
-use Rattle.model.specs.ListLaws.{All, all-implies, all-mapi, or-right}
+use Rattle.model.specs.ListLaws.{All, all-implies, all-mapi, or-right, eqb-sym}
 use Rattle.model.specs.VersionLaws.{opens-set}
 use Rattle.model.specs.EarlyResults.{Ordered, sents}
 use Rattle.model.specs.Tests.{neither, all-keeps, any-keep, any-append}
@@ -143,13 +143,6 @@ module _ (l : Limits) (u : Replica) where
 
 pub same-length : (a b : List Pending) → sents a ≡ sents b → length a ≡ length b
 same-length a b e = sym (length-map a (λ (j : Pending). j .sent)) ∙ ap length e ∙ length-map b (λ (j : Pending). j .sent)
-
-eqb-sym : (m n : ℕ) → eqb m n ≡ eqb n m
-eqb-sym m n = go′ (eqb m n) refl
-  where
-    go′ : (b : Bool) → eqb m n ≡ b → b ≡ eqb n m
-    go′ true e = sym (eq-eqb n m (sym (eqb-true m n e)))
-    go′ false e = sym (ne-eqb n m (λ q. eqb-false m n e (sym q)))
 
 key-sym : (s x : Transaction) → is-key (x .client) (x .sequence) s ≡ false → is-key (s .client) (s .sequence) x ≡ false
 key-sym s x e = rw (eqb-sym (x .client) (s .client), eqb-sym (x .sequence) (s .sequence)) e

@@ -23,7 +23,7 @@ use Rattle.layout.specs.Printable.{RowFits, few-pending}
 use Rattle.layout.specs.Holds.{Holds, holds-long}
 use Rattle.layout.specs.Reading.{get-row}
 use Rattle.queue.specs.declared.Place.{Place}
-use Rattle.queue.specs.RowKeys.{keys, length-keys, getD-keys}
+use Rattle.layout.specs.RowKeys.{keys, length-keys, getD-keys}
 
 -- what `locate` ensures, of whichever replica the record area holds
 pub record Located (l : Limits) (b : List ℕ) (c s : ℕ) (r : Place) : Type 0 where

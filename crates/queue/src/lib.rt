@@ -4,37 +4,15 @@ use model::Limits;
 use model::OptimisticPosition;
 ghost use mathlib.Core.Path.{_≡_};
 ghost use mathlib.Core.Bool.{true};
-ghost use Prim.Native.Nat.{_*_, _≤_, _<_};
-ghost use lib.Dec.{eqb};
-ghost use lib.ListN.{length};
-ghost use Rattle.cells.specs.Cells.{cells};
-ghost use Rattle.model.specs.Lists.{index};
+ghost use Prim.Native.Nat.{_<_};
 ghost use Rattle.model.specs.Calls.{clients, find as find-call};
 ghost use Rattle.model.specs.Answers.{finding};
 ghost use Rattle.layout.specs.Offsets.{Sane};
 ghost use Rattle.layout.specs.Holds.{Holding};
 ghost use Rattle.layout.specs.Fit.{fit};
 ghost use Rattle.layout.specs.Contract.{Supported, Met};
-ghost use Rattle.queue.specs.RowKeys.{keys};
 ghost use Rattle.queue.specs.Place.{Located, Spent};
 ghost use Rattle.queue.specs.Shown.{Shown};
-
-// The position of the first of so many rows, of this many cells each, whose first cell is the key; the number of rows where there is none.
-pub fn key_index(rows: &[u8], width: usize, count: usize, key: u64) -> usize
-    requires { ⌜ (0 < width) × (count * width * 8 ≤ length (now rows)) ⌝ }
-    ensures { λ r. ⌜ r ≡ index (eqb key) (keys width count (cells (now (rows .entry)))) ⌝ }
-{
-    let mut i = 0;
-    let mut at = 0;
-    while i < count {
-        if cells::get(rows, at) == key {
-            return i;
-        }
-        i += 1;
-        at += width;
-    }
-    i
-}
 
 // Where a transaction stands among the pending ones, in optimistic order (their number where it is not among them), and their number.
 pub struct Place {
@@ -60,7 +38,7 @@ pub fn locate(records: &[u8], l: Limits, client: u32, sequence: u32) -> Place
     let count = cells::get(records, layout::pending_at(l)) as usize;
     let at = layout::row_at(l, 0) * 8;
     let key = layout::key_cell(client, sequence);
-    let i = key_index(&records[at..], layout::row_width(l), count, key);
+    let i = layout::key_index(&records[at..], layout::row_width(l), count, key);
     Place {
         position: OptimisticPosition(i as u32),
         count,

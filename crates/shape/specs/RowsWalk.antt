@@ -10,7 +10,7 @@ use Rattle.cells.specs.Cells.{cells}
 use Rattle.cells.specs.CellLaws.{cells-drop}
 use Rattle.shape_row.specs.RowScan.{cells-of, place-of}
 use Rattle.shape.specs.AreaScan.{placed-in, finished-in, keyless-in}
-use Rattle.shape_row.specs.RowTests.{less-times}
+use Rattle.versions.specs.BlockLoops.{less-times}
 use Rattle.shape.specs.RowLoop.{rows-on, rows-no, rows-end}
 
 -- left rows are left, from byte at on, and their bodies from byte from on; finished says whether all before are finished

@@ -7,9 +7,10 @@ use native.Mathlib.Omega.{arith}
 use lib.Dec.{eqb}
 use lib.ListN.{drop, getD}
 use lib.Seq.{getD-drop}
-use borrow.Author.Tests.{eqb-true, eqb-false, eq-eqb, ne-eqb}
+use borrow.Author.Tests.{ne-eqb}
 use Rattle.operation.specs.Body.{each}
 use Rattle.layout.specs.Rows.{chunks}
+use Rattle.model.specs.ListLaws.{eqb-sym}
 use Rattle.shape_row.specs.RowScan.{absent}
 use Rattle.shape_row.specs.RowTests.{absent-next}
 use Rattle.shape_keys.specs.Keys.{lone-in}
@@ -21,13 +22,6 @@ key-at w cs i = getD cs (i * w) 0
 -- no block before block i begins with its key
 abbrev pub early : ℕ → List ℕ → ℕ → Bool
 early w cs i = absent (key-at w cs i) (chunks w i cs)
-
-turned : (a b : ℕ) → eqb a b ≡ eqb b a
-turned a b = go (eqb a b) refl
-  where
-    go : (t : Bool) → eqb a b ≡ t → t ≡ eqb b a
-    go true e = sym (eq-eqb b a (sym (eqb-true a b e)))
-    go false e = sym (ne-eqb b a (λ z. eqb-false a b e (sym z)))
 
 shuffle : (a e x m : Bool) → ((a && e) && (x && m)) ≡ ((a && x) && (e && m))
 shuffle false e x m = refl
@@ -76,7 +70,7 @@ module _ (w : ℕ) (wide : 0 < w) where
       let m = key-at w cs (suc n) in
       let a = absent k (chunks w n (drop w cs)) in
       let e = each (early w (drop w cs)) n in
-      ap₂ _&&_ (each-first n cs) (absent-first m n cs ∙ ap₂ (λ (t : Bool) (j : ℕ). not t && absent j (chunks w n (drop w cs))) (turned k m) (sym (next-key cs n)))
+      ap₂ _&&_ (each-first n cs) (absent-first m n cs ∙ ap₂ (λ (t : Bool) (j : ℕ). not t && absent j (chunks w n (drop w cs))) (eqb-sym k m) (sym (next-key cs n)))
       ∙ shuffle a e (not (eqb m k)) (early w (drop w cs) n)
       ∙ ap (λ (t : Bool). t && (e && early w (drop w cs) n)) (sym (absent-last k n (drop w cs) ∙ ap (λ (j : ℕ). a && not (eqb j k)) (next-key cs n)))
 

@@ -7,7 +7,7 @@ use native.Mathlib.Omega.{arith}
 use lib.Dec.{eqb, leb, ltb}
 use lib.ListN.{length, take, drop, getD, length-drop}
 use lib.Seq.{slice, take-length, take-all, getD-take, getD-drop, drop-drop}
-use borrow.Author.Tests.{eq-eqb, ne-eqb, lt-ltb, le-ltb, le-leb, lt-leb}
+use borrow.Author.Tests.{eq-eqb, ne-eqb, lt-ltb, le-ltb, le-leb, lt-leb, ltb-true, ltb-false}
 use Rattle.cells.specs.Cells.{cells}
 use Rattle.cells.specs.CellLaws.{cells-rest, cells-drop}
 use Rattle.cells.specs.Zeros.{zeros}
@@ -15,16 +15,13 @@ use Rattle.operation.specs.declared.Decoded.the-variants.{WellFormed, Malformed
 use Rattle.operation.specs.Body.{size, is-well-formed, decoded}
 use Rattle.operation.specs.BodyLaws.{formed, taken, refused}
 use Rattle.execution.specs.ReadAgreement.{both}
-use Rattle.model.specs.Lists.{any}
+use Rattle.model.specs.Lists.{any, index}
+use Rattle.model.specs.ListLaws.{any-index, eqb-sym}
 use Rattle.model.specs.Calls.{clients}
 use Rattle.layout.specs.Rows.{chunks}
+use Rattle.layout.specs.RowKeys.{keys, length-keys}
 use Rattle.layout.specs.Offsets.{entry-at}
 use Rattle.shape_row.specs.RowScan.{counter-in, outcome-in, reads-in, entries-in, absent, names-in, key-in, body-in, sets-in, begun, begun-in, run-in, row-in}
-
--- k blocks more than none are one and k - 1
-pub less-times : (k w : ℕ) → 0 < k → k * w ≡ w + (k - 1) * w
-less-times zero w h = absurd (omega arith)
-less-times (suc k) w h = let e : suc k - 1 ≡ k = omega arith in rw e (omega arith)
 
 -- ---- blocks that do not begin with a key
 
@@ -50,18 +47,25 @@ module _ (w left at key : ℕ) (cs : List ℕ) (wide : 0 < w) where
           ∙ split (eqb (getD cs at 0) key) (any (λ r. eqb (getD r 0 0) key) (chunks w k (drop w (drop at cs))))
           ∙ ap₂ (λ (i : ℕ) (ds : List ℕ). not (eqb (getD cs at 0) key) && absent key (chunks w i ds)) e (drop-drop w at cs)
 
-  module _ (h : 0 < left) (v : ℕ) (e : v ≡ getD cs at 0) where
-    pub absent-on : (v ≡ key → ⊥) → absent key (chunks w left (drop at cs)) ≡ absent key (chunks w (left - 1) (drop (at + w) cs))
-    absent-on k =
-        absent-next h ∙ ap (λ (t : Bool). not t && absent key (chunks w (left - 1) (drop (at + w) cs))) (ap (λ (x : ℕ). eqb x key) (sym e) ∙ ne-eqb v key k)
+not-below : (i n : ℕ) → not (ltb i n) ≡ leb n i
+not-below i n = go′ (ltb i n) refl
+  where
+    go′ : (t : Bool) → ltb i n ≡ t → not t ≡ leb n i
+    go′ true e = sym (lt-leb n i (ltb-true i n e))
+    go′ false e = sym (le-leb n i (ltb-false i n e))
 
-    pub absent-no : v ≡ key → absent key (chunks w left (drop at cs)) ≡ false
-    absent-no k =
-        absent-next h ∙ ap (λ (t : Bool). not t && absent key (chunks w (left - 1) (drop (at + w) cs))) (ap (λ (x : ℕ). eqb x key) (sym e) ∙ eq-eqb v key k)
+-- a block begins with the key where its first cell is among the keys
+any-keys : (w n key : ℕ) (cs : List ℕ) → 0 < w → any (λ r. eqb (getD r 0 0) key) (chunks w n cs) ≡ any (eqb key) (keys w n cs)
+unfolding chunks keys
+any-keys w zero key cs wide = refl
+any-keys w (suc n) key cs wide =
+    ap₂ _||_ (ap (λ (v : ℕ). eqb v key) (getD-take w cs 0 0 wide) ∙ eqb-sym (getD cs 0 0) key) (any-keys w n key (drop w cs) wide)
 
-  pub absent-end : left ≤ 0 → absent key (chunks w left (drop at cs)) ≡ true
-  unfolding chunks
-  absent-end h = let e : left ≡ 0 = omega arith in ap (λ (k : ℕ). absent key (chunks w k (drop at cs))) e
+pub absent-index : (w n key : ℕ) (cs : List ℕ) → 0 < w → absent key (chunks w n cs) ≡ leb n (index (eqb key) (keys w n cs))
+absent-index w n key cs wide =
+    let ks = keys w n cs in
+    ap not (any-keys w n key cs wide ∙ any-index (eqb key) ks ∙ ap (λ (k : ℕ). ltb (index (eqb key) ks) k) (length-keys w n cs))
+    ∙ not-below (index (eqb key) ks) n
 
 -- ---- entries
 

@@ -11,21 +11,12 @@ ghost use Rattle.layout.specs.Rows.{chunks};
 ghost use Rattle.shape_row.specs.RowScan.{absent as absent-in, names-in, key-in, body-in, sets-in, run-in, row-in, cells-of, place-of};
 ghost use Rattle.shape_row.specs.LentRow.{Row};
 
-// Does none of the first count blocks, of width cells each, begin with key? Block by block, up to the first that does.
+// Does none of the first count blocks, of width cells each, begin with key?
 pub fn absent(blocks: &[u8], width: usize, count: usize, key: u64) -> bool
     requires { ⌜ (0 < width) × (count * width * 8 ≤ length (now blocks)) ⌝ }
     ensures { λ r. ⌜ r ≡ absent-in key (chunks width count (cells (now (blocks .entry)))) ⌝ }
 {
-    let mut at = 0;
-    let mut left = count;
-    while 0 < left {
-        if cells::get(blocks, at) == key {
-            return false;
-        }
-        at += width;
-        left -= 1;
-    }
-    true
+    count <= layout::key_index(blocks, width, count, key)
 }
 
 // Two entries from a cell on: do they name different objects, below n? Here and for three and four all is tested, without a branch.

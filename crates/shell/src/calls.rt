@@ -7,6 +7,9 @@ use console::arguments::ValueList;
 use console::faults::Fault;
 use console::faults::Name;
 use console::output;
+use model::Delivery;
+use model::Finding;
+use model::Reply;
 use text::buffer;
 use text::hexadecimal;
 use text::hexadecimal::Digits;
@@ -25,6 +28,7 @@ fn first<'a>(values: &'a [i64], n: usize) -> &'a [i64]
     }
 }
 
+// Opens with the values that the line has, put into a lent array.
 fn open_into(
     records: &mut [u8],
     bodies: &mut [u8],
@@ -36,7 +40,7 @@ fn open_into(
     match arguments::two_numbers(line, at, Name::Objects, Name::Stamp) {
         Pair::Are(n, stamp, behind) => match arguments::values(line, behind, values) {
             ValueList::Count(count) => {
-                let r = replica::open(records, bodies, n, first(values, count), stamp);
+                let r: Reply = replica::open(records, bodies, n, first(values, count), stamp);
                 Answer::Line(output::put_reply(out, r))
             }
             ValueList::Wrong(fault) => Answer::Wrong(fault),
@@ -45,6 +49,7 @@ fn open_into(
     }
 }
 
+// open N STAMP V0 V1 ..
 pub fn open(
     records: &mut [u8],
     bodies: &mut [u8],
@@ -68,6 +73,7 @@ fn body_bytes(word: &[u8], body: &mut [u8]) -> Digits {
     hexadecimal::parse(word, body)
 }
 
+// Delivers the body that the line has, put into a lent array.
 fn early_into(
     records: &mut [u8],
     bodies: &mut [u8],
@@ -86,7 +92,7 @@ fn early_into(
             };
             if words::ended(line, to) {
                 let b = buffer::front(body, n);
-                let r = replica::deliver_optimistic(records, bodies, client, sequence, b);
+                let r: Reply = replica::deliver_optimistic(records, bodies, client, sequence, b);
                 Answer::Line(output::put_reply(out, r))
             } else {
                 Answer::Wrong(Fault::TooManyWords)
@@ -96,6 +102,7 @@ fn early_into(
     }
 }
 
+// early CLIENT SEQUENCE HEX
 pub fn early(
     records: &mut [u8],
     bodies: &mut [u8],
@@ -108,6 +115,7 @@ pub fn early(
     early_into(records, bodies, line, at, &mut body, out)
 }
 
+// work COUNT
 pub fn work(records: &mut [u8], bodies: &[u8], line: &[u8], at: usize, out: &mut [u8]) -> Answer {
     match arguments::last_number(line, at, Name::Count) {
         Single::Is(count, _) => {
@@ -117,6 +125,7 @@ pub fn work(records: &mut [u8], bodies: &[u8], line: &[u8], at: usize, out: &mut
     }
 }
 
+// final CLIENT SEQUENCE
 pub fn final_delivery(
     records: &mut [u8],
     bodies: &mut [u8],
@@ -126,13 +135,14 @@ pub fn final_delivery(
 ) -> Answer {
     match arguments::last_two_numbers(line, at, Name::Client, Name::Sequence) {
         Pair::Are(client, sequence, _) => {
-            let r = replica::deliver_final(records, bodies, client, sequence);
+            let r: Delivery = replica::deliver_final(records, bodies, client, sequence);
             Answer::Line(output::put_delivery(out, r))
         }
         Pair::Wrong(fault) => Answer::Wrong(fault),
     }
 }
 
+// reader R
 pub fn reader(records: &mut [u8], bodies: &[u8], line: &[u8], at: usize, out: &mut [u8]) -> Answer {
     match arguments::last_number(line, at, Name::Reader) {
         Single::Is(r, _) => {
@@ -142,6 +152,7 @@ pub fn reader(records: &mut [u8], bodies: &[u8], line: &[u8], at: usize, out: &m
     }
 }
 
+// read R OBJECT
 pub fn read(records: &[u8], bodies: &[u8], line: &[u8], at: usize, out: &mut [u8]) -> Answer {
     match arguments::last_two_numbers(line, at, Name::Reader, Name::Object) {
         Pair::Are(r, object, _) => {
@@ -151,6 +162,7 @@ pub fn read(records: &[u8], bodies: &[u8], line: &[u8], at: usize, out: &mut [u8
     }
 }
 
+// close R
 pub fn close(records: &mut [u8], bodies: &[u8], line: &[u8], at: usize, out: &mut [u8]) -> Answer {
     match arguments::last_number(line, at, Name::Reader) {
         Single::Is(r, _) => {
@@ -160,16 +172,18 @@ pub fn close(records: &mut [u8], bodies: &[u8], line: &[u8], at: usize, out: &mu
     }
 }
 
+// find CLIENT SEQUENCE
 pub fn find(records: &[u8], bodies: &[u8], line: &[u8], at: usize, out: &mut [u8]) -> Answer {
     match arguments::last_two_numbers(line, at, Name::Client, Name::Sequence) {
         Pair::Are(client, sequence, _) => {
-            let r = replica::find(records, bodies, client, sequence);
+            let r: Finding = replica::find(records, bodies, client, sequence);
             Answer::Line(output::put_finding(out, r))
         }
         Pair::Wrong(fault) => Answer::Wrong(fault),
     }
 }
 
+// show CLIENT SEQUENCE
 pub fn show(records: &[u8], bodies: &[u8], line: &[u8], at: usize, out: &mut [u8]) -> Answer {
     match arguments::last_two_numbers(line, at, Name::Client, Name::Sequence) {
         Pair::Are(client, sequence, _) => {

@@ -39,6 +39,7 @@ pub enum Command {
     Unknown,
 }
 
+// The command that a line's first word names.
 fn named(word: &[u8]) -> Command {
     match words::place(
         b"open early work final reader read close find show dump lend poke",
@@ -60,12 +61,14 @@ fn named(word: &[u8]) -> Command {
     }
 }
 
+// The smaller of two lengths.
 fn least(a: usize, b: usize) -> usize
     ensures { λ r. ⌜ (r ≤ a) × (r ≤ b) ⌝ }
 {
     if a < b { a } else { b }
 }
 
+// Makes a call on the bytes that are lent.
 fn dispatch(
     records: &mut [u8],
     bodies: &mut [u8],
@@ -88,6 +91,7 @@ fn dispatch(
     }
 }
 
+// Lends as many bytes of each area as `lend` said, and makes the call on them.
 fn on_lent(
     records: &mut [u8],
     bodies: &mut [u8],

@@ -24,6 +24,7 @@ pub struct Progress {
 }
 
 impl Progress {
+    // The same, and no more lines are answered.
     fn stopped(self) -> Progress {
         let lent = self.lent;
         Progress {
@@ -34,6 +35,7 @@ impl Progress {
         }
     }
 
+    // The same, within a line that is too long: its start was passed over.
     fn passing(self) -> Progress {
         let lent = self.lent;
         Progress {
@@ -51,6 +53,7 @@ pub struct State {
 }
 
 impl State {
+    // Nothing read, all of both areas lent.
     fn new() -> State
         ensures { λ r. ⌜ (r .input .from ≡ 0) × (r .input .end ≡ 0) ⌝ }
     {
@@ -95,6 +98,7 @@ fn is_silent(line: &[u8]) -> bool {
     words::ended(line, 0)
 }
 
+// Answers a line that holds a command.
 fn command(
     records: &mut [u8],
     bodies: &mut [u8],
@@ -123,6 +127,7 @@ fn command(
     }
 }
 
+// Answers a wrong line by what is wrong with it.
 fn error(out: &mut [u8], lines: u64, lent: Lent, fault: Fault) -> Progress {
     let n = faults::put_error(out, lines, fault);
     Progress {
@@ -173,6 +178,7 @@ fn last(
     p.stopped()
 }
 
+// Answers the next line that is in the buffer whole, or reads a block.
 fn turn(records: &mut [u8], bodies: &mut [u8], buffer: &mut [u8], out: &mut [u8], s: State) -> State
     requires { ⌜ Within (s .input) (length (now buffer)) ⌝ }
     ensures { λ r. ⌜ Within (r .input) (length (now (buffer .exit))) ⌝ }

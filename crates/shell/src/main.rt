@@ -5,6 +5,7 @@ mod calls;
 mod commands;
 mod lines;
 
+// Both areas of one replica, empty, and the lines of standard input.
 fn main() {
     let mut records = [0u8; 28112];
     let mut bodies = [0u8; 5664];

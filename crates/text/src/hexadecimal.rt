@@ -60,6 +60,7 @@ pub fn parse(word: &[u8], out: &mut [u8]) -> Digits
     Digits::Bytes(n)
 }
 
+// The digit of a number below 16.
 fn glyph(n: u8) -> u8
     requires { ⌜ n < 16 ⌝ }
     ensures { λ r. ⌜ r ≡ glyph-of n ⌝ }

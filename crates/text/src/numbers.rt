@@ -62,6 +62,7 @@ fn negative(digits: &[u8]) -> Integer
     }
 }
 
+// Does a minus sign stand in front?
 fn has_minus(word: &[u8]) -> bool
     ensures { λ r. ⌜ r ≡ has-minus (now (word .entry)) ⌝ }
 {

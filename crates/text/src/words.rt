@@ -10,6 +10,7 @@ pub struct Word {
     pub to: usize,
 }
 
+// Spaces and tabs stand between words.
 fn is_blank(byte: u8) -> bool
     ensures { λ r. ⌜ r ≡ is-blank byte ⌝ }
 {

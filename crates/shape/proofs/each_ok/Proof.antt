@@ -5,7 +5,7 @@ use native.Mathlib.Omega.{arith}
 use lib.ListN.{length, length-take, length-drop}
 use borrow.Author.Needs.{needs}
 use Rattle.shape_row.specs.RowScan.{cells-of, place-of}
-use Rattle.shape_row.specs.RowTests.{less-times}
+use Rattle.versions.specs.BlockLoops.{less-times}
 use Rattle.shape.specs.RowsWalk.{Walk, walk-on, walk-no, walk-end}
 use Rattle.shape.proofs.each_ok.Statement.{statement}
 use Rattle.shape.proofs.each_ok.Tie as tie

@@ -1,4 +1,4 @@
--- `queue::key_index` meets its contract. The loop's invariant: no row before row i has the key.
+-- `layout::key_index` meets its contract. The loop's invariant: no block before block i begins with the key.
 use mathlib.Core.Path.{_≡_, sym, ap, _∙_}
 use Prim.Native.Nat.{ℕ, _≤_, _<_, _-_, _*_}
 use native.Mathlib.Nat.{mul-le-mul-right}
@@ -6,16 +6,16 @@ use native.Mathlib.Omega.{arith}
 use borrow.Author.Count.{below-more}
 use lib.ListN.{getD}
 use Rattle.cells.specs.Cells.{cells}
-use Rattle.queue.specs.RowKeys.{first-key}
-use Rattle.queue.proofs.key_index.Statement.{statement}
-use Rattle.queue.proofs.key_index.Tie as tie
+use Rattle.layout.specs.RowKeys.{first-key}
+use Rattle.layout.proofs.key_index.Statement.{statement}
+use Rattle.layout.proofs.key_index.Tie as tie
 
 abbrev Inv-loop : tie.InvT-loop
-Inv-loop rows width count key i₀ at₀ i at =
-    (i ≤ count) × (at ≡ i * width) × ((k : ℕ) → k < i → getD (cells rows) (k * width) 0 ≡ key → ⊥)
+Inv-loop blocks width count key i₀ at₀ i at =
+    (i ≤ count) × (at ≡ i * width) × ((k : ℕ) → k < i → getD (cells blocks) (k * width) 0 ≡ key → ⊥)
 
 abbrev μ-loop : tie.MeasureT-loop
-μ-loop rows width count key i₀ at₀ i at = count - i
+μ-loop blocks width count key i₀ at₀ i at = count - i
 
 loop-holds : tie.Need-loop-holds Inv-loop μ-loop
 loop-holds c = (omega arith, omega arith, λ k h e. omega arith)
@@ -28,8 +28,8 @@ returns : tie.Need-returns Inv-loop μ-loop
 returns c =
     let a = c .before .before .before in
     let s = a .before .before .args in
-    let e = sym (c .before .get .ensures ∙ ap (λ (j : ℕ). getD (cells (s .rows .now)) j 0) (a .loop .inv .1)) ∙ c .if1 .taken in
-    first-key (s .width) (s .count) (s .key) (cells (s .rows .now)) (a .loop .i) (a .loop .inv .0) (a .loop .inv .2) (λ h. e)
+    let e = sym (c .before .get .ensures ∙ ap (λ (j : ℕ). getD (cells (s .blocks .now)) j 0) (a .loop .inv .1)) ∙ c .if1 .taken in
+    first-key (s .width) (s .count) (s .key) (cells (s .blocks .now)) (a .loop .i) (a .loop .inv .0) (a .loop .inv .2) (λ h. e)
 
 add-i : tie.Need-add-i Inv-loop μ-loop
 add-i c = omega arith
@@ -45,14 +45,14 @@ loop-again : tie.Need-loop-again Inv-loop μ-loop
 loop-again c =
     let a = c .before .before .before in
     let s = a .before .before .args in
-    let e = c .before .get .ensures ∙ ap (λ (j : ℕ). getD (cells (s .rows .now)) j 0) (a .loop .inv .1) in
+    let e = c .before .get .ensures ∙ ap (λ (j : ℕ). getD (cells (s .blocks .now)) j 0) (a .loop .inv .1) in
     (omega arith, omega arith, below-more _ _ (a .loop .inv .2) (λ q. c .if1 .left (e ∙ q)))
 
 returns-2 : tie.Need-returns-2 Inv-loop μ-loop
 returns-2 c =
     let a = c .before in
     let s = a .before .before .args in
-    first-key (s .width) (s .count) (s .key) (cells (s .rows .now)) (a .loop .i) (a .loop .inv .0) (a .loop .inv .2) (λ h. absurd (omega arith))
+    first-key (s .width) (s .count) (s .key) (cells (s .blocks .now)) (a .loop .i) (a .loop .inv .0) (a .loop .inv .2) (λ h. absurd (omega arith))
 
 pub key-index-spec : {M : Type 1} → statement M
 key-index-spec =
