@@ -73,7 +73,8 @@ lent-rewritten k h =
     record { bounded = record { reads = h .bounded .reads; writes = h .bounded .writes }; read-room = h .read-room; write-room = h .write-room }
 
 -- a run from its start with the most operations is the whole run
-pub run-whole : (T : Table) (b : List Operation) (t : Counts) (g : List ℤ) (ro : List ℕ) (rv : List ℤ) (wo : List ℕ) (wv : List ℤ) → length b ≤ capacity → run-of-arrays t g ro rv wo wv ≡ steps T b capacity start → InArrays (whole T b) t ro rv wo wv
+pub run-whole : (T : Table) (b : List Operation) (t : Counts) (g : List ℤ) (ro : List ℕ) (rv : List ℤ) (wo : List ℕ) (wv : List ℤ) → length b ≤ capacity
+    → run-of-arrays t g ro rv wo wv ≡ steps T b capacity start → InArrays (whole T b) t ro rv wo wv
 run-whole T b t g ro rv wo wv h e =
     let f = e ∙ enough T b capacity h in
     ap (λ (p : Run). run-of-arrays t (p .registers) ro rv wo wv) (sym f) ∙ f

@@ -81,7 +81,8 @@ module _ {n c p q : ℕ} {rc xs : List ℕ} (g : Case n c p q rc xs) where
   unfolding block-ok low
   rules =
       both (leb (w .stamp) (k .timestamp)) (chain (c ∷ rc) (lowest (suc (k .timestamp)) (c ∷ rc)) (w .stamp) vs)
-      (sym (versions-chain (k .timestamp) (c ∷ rc) w vs) ∙ ap (versions-shaped (k .timestamp) (stamps (c ∷ rc))) (sym cut) ∙ both (framed n (cells xs)) (versions-shaped (k .timestamp) (stamps (c ∷ rc)) (block-versions (cells xs))) (k .ok) .1)
+      (sym (versions-chain (k .timestamp) (c ∷ rc) w vs) ∙ ap (versions-shaped (k .timestamp) (stamps (c ∷ rc))) (sym cut)
+      ∙ both (framed n (cells xs)) (versions-shaped (k .timestamp) (stamps (c ∷ rc)) (block-versions (cells xs))) (k .ok) .1)
 
   pruned-is : (us : List Version) → trim rc (w .stamp) vs ≡ us → prune (stamps rc) (block-versions (cells xs)) ≡ w ∷ us
   pruned-is us e = ap (prune (stamps rc)) cut ∙ prune-trim rc w vs fall ∙ ap (λ (l : List Version). w ∷ l) e
