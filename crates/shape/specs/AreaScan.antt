@@ -14,7 +14,8 @@ use Rattle.layout.specs.Rows.{chunks}
 use Rattle.layout.specs.Layout.{Areas}
 use Rattle.layout.specs.Offsets.{row-at, body-at}
 use Rattle.layout.specs.Unchecked.{size-in, pending-in}
-use Rattle.shape_row.specs.RowScan.{counter-in, outcome-in, absent, row-in, cells-of, place-of}
+use Rattle.shape_names.specs.NameScan.{absent}
+use Rattle.shape_row.specs.RowScan.{counter-in, outcome-in, row-in, cells-of, place-of}
 use Rattle.shape_objects.specs.ObjectScan.{lasts-of, header-in, objects-in}
 
 -- ---- all rows

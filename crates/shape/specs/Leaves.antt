@@ -17,7 +17,8 @@ use Rattle.model.specs.Calls.{clients}
 use Rattle.model.specs.ShapeCheck.{names-shaped, key-unspent}
 use Rattle.layout.specs.Rows.{chunks}
 use Rattle.layout.specs.Layout.{entry, key-of}
-use Rattle.shape_row.specs.RowScan.{absent, names-in, key-in}
+use Rattle.shape_names.specs.NameScan.{absent, names-in}
+use Rattle.shape_row.specs.RowScan.{key-in}
 
 -- two tests, each of which holds where the other does
 pub same : (a b : Bool) → (a ≡ true → b ≡ true) → (b ≡ true → a ≡ true) → a ≡ b

@@ -14,7 +14,7 @@ use Rattle.layout.specs.Offsets.{last-at, reader-at, row-at, body-at}
 use Rattle.layout.specs.Unchecked.{size-in, pending-in}
 use Rattle.shape_objects.specs.ObjectScan.{lasts-of}
 use Rattle.shape_objects.specs.HeaderParts.{part, lasts-part}
-use Rattle.shape_row.specs.RowTests.{rest-cells}
+use Rattle.shape_names.specs.NameTests.{rest-cells}
 use Rattle.shape.specs.AreaScan.{rows-in, used-in, unused-in, pending-part}
 
 -- the last numbers lie from cell c up to cell r, the rows from cell f on

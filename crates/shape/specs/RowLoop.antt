@@ -7,7 +7,8 @@ use native.Mathlib.Omega.{arith}
 use lib.Dec.{eqb}
 use lib.ListN.{take, drop, getD}
 use Rattle.layout.specs.Rows.{chunks}
-use Rattle.shape_row.specs.RowScan.{counter-in, absent, row-in, cells-of, place-of}
+use Rattle.shape_names.specs.NameScan.{absent}
+use Rattle.shape_row.specs.RowScan.{counter-in, row-in, cells-of, place-of}
 use Rattle.shape_keys.specs.Keys.{lone-in}
 use Rattle.shape.specs.AreaScan.{next-in, placed-in, finished-in, keyless-in, rows-in}
 

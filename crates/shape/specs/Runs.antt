@@ -27,7 +27,8 @@ use Rattle.layout.specs.Rows.{chunks}
 use Rattle.layout.specs.RowLaws.{length-chunks}
 use Rattle.layout.specs.Layout.{entry, row}
 use Rattle.layout.specs.UncheckedRows.{row-ok, dec-counter, dec-outcome, dec-registers, dec-reads, dec-writes}
-use Rattle.shape_row.specs.RowScan.{counter-in, outcome-in, reads-in, entries-in, names-in, sets-in, begun-in, run-in}
+use Rattle.shape_names.specs.NameScan.{names-in}
+use Rattle.shape_row.specs.RowScan.{counter-in, outcome-in, reads-in, entries-in, sets-in, begun-in, run-in}
 use Rattle.shape.specs.Leaves.{same, names-are}
 
 -- ---- a row taken apart

@@ -25,7 +25,8 @@ use Rattle.model.specs.ShapeCheck.{key-unspent, at-start, at-start-says, names-
 use Rattle.layout.specs.Rows.{chunks}
 use Rattle.layout.specs.Layout.{key-of, row, body, pending-from, all-from}
 use Rattle.layout.specs.UncheckedRows.{dec-key, dec-counter, dec-outcome}
-use Rattle.shape_row.specs.RowScan.{counter-in, outcome-in, absent, key-in, body-end, body-in, run-in, row-in, cells-of, place-of}
+use Rattle.shape_names.specs.NameScan.{absent}
+use Rattle.shape_row.specs.RowScan.{counter-in, outcome-in, key-in, body-end, body-in, run-in, row-in, cells-of, place-of}
 use Rattle.shape.specs.AreaScan.{next-in, finished-in, rows-in}
 use Rattle.shape.specs.Leaves.{same, key-same, key-is}
 use Rattle.shape.specs.Runs.{row-size, run-is}

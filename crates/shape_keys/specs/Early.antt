@@ -11,8 +11,8 @@ use borrow.Author.Tests.{ne-eqb}
 use Rattle.operation.specs.Body.{each}
 use Rattle.layout.specs.Rows.{chunks}
 use Rattle.model.specs.ListLaws.{eqb-sym}
-use Rattle.shape_row.specs.RowScan.{absent}
-use Rattle.shape_row.specs.RowTests.{absent-next}
+use Rattle.shape_names.specs.NameScan.{absent}
+use Rattle.shape_names.specs.NameTests.{absent-next}
 use Rattle.shape_keys.specs.Keys.{lone-in}
 
 -- the key of block i

@@ -4,7 +4,7 @@ use mathlib.Core.List.{List}
 use Prim.Native.Nat.{ℕ, zero, suc, _+_, _*_, _/_, _%_, _^_}
 use lib.ListN.{drop, getD}
 use Rattle.layout.specs.Rows.{chunks}
-use Rattle.shape_row.specs.RowScan.{absent}
+use Rattle.shape_names.specs.NameScan.{absent}
 
 -- of k blocks of w cells each, none begins with the key of one before it
 unfoldable pub lone-in : ℕ → ℕ → List ℕ → Bool

@@ -14,7 +14,7 @@ use borrow.Author.Tests.{eqb-true, eqb-false}
 use Rattle.operation.specs.Body.{each}
 use Rattle.operation.specs.Columns.{stops}
 use Rattle.layout.specs.Rows.{chunks}
-use Rattle.shape_row.specs.RowScan.{absent}
+use Rattle.shape_names.specs.NameScan.{absent}
 use Rattle.shape_keys.specs.Keys.{mark, lone-in}
 use Rattle.shape_keys.specs.Early.{key-at, early, lone-early, absent-all}
 

@@ -6,7 +6,7 @@ ghost use Prim.Native.Nat.{_*_, _≤_, _<_};
 ghost use lib.ListN.{length};
 ghost use Rattle.cells.specs.Cells.{cells};
 ghost use Rattle.layout.specs.Rows.{chunks};
-ghost use Rattle.shape_row.specs.RowScan.{absent as absent-in};
+ghost use Rattle.shape_names.specs.NameScan.{absent as absent-in};
 ghost use Rattle.shape_keys.specs.Keys.{mark, lone-in};
 
 // The mark of a key: its client and the last four bits of its sequence number, one of 256. What a client delivers in a row has different marks.
@@ -22,7 +22,7 @@ fn is_new(rows: &[u8], width: usize, count: usize, key: u64, seen: bool) -> bool
     ensures { λ r. ⌜ r ≡ cond seen (absent-in key (chunks width count (cells (now (rows .entry))))) true ⌝ }
 {
     if seen {
-        shape_row::absent(rows, width, count, key)
+        shape_names::absent(rows, width, count, key)
     } else {
         true
     }

@@ -1,4 +1,4 @@
--- Scan: the check as the code goes. Lent: what contracts say. Steps: laws.
+-- RowScan: the check as the code goes. LentRow: what contracts say. RowTests: laws.
 pub mod RowScan
 pub mod LentRow
 pub mod RowTests

@@ -1,15 +1,14 @@
 -- The shape check of one row and its body as the code goes. Assumes nothing.
 -- n is the number of objects, most the limit of a body's operations, m the number of a body's operations, x the cells of a row, y a place for a body.
-use mathlib.Core.Bool.{Bool, true, cond, not, _&&_, _||_}
+use mathlib.Core.Bool.{Bool, cond, _&&_, _||_}
 use mathlib.Core.List.{List}
-use Prim.Native.Nat.{ℕ, zero, suc, _+_, _-_, _*_, _/_, _%_, _^_}
+use Prim.Native.Nat.{ℕ, _+_, _-_, _*_, _/_, _%_, _^_}
 use lib.Dec.{eqb, leb, ltb}
 use lib.ListN.{length, take, drop, getD}
 use Rattle.cells.specs.Zeros.{zeros}
 use Rattle.operation.specs.Body.{body-length, size, is-well-formed}
-use Rattle.model.specs.Lists.{any}
 use Rattle.model.specs.Calls.{clients}
-use Rattle.layout.specs.Rows.{chunks}
+use Rattle.shape_names.specs.NameScan.{names-in}
 use Rattle.layout.specs.Offsets.{counter-at, outcome-at, reads-at, entries-at, entry-at}
 
 -- cells of a row, bytes of a place
@@ -32,16 +31,6 @@ reads-in x = getD x reads-at 0
 -- reads and writes
 abbrev pub entries-in : List ℕ → ℕ
 entries-in x = getD x entries-at 0
-
--- no block begins with this cell
-abbrev pub absent : ℕ → List (List ℕ) → Bool
-absent k rs = not (any (λ r. eqb (getD r 0 0) k) rs)
-
--- k entries, each an object and a value: "different objects below n"
-unfoldable pub names-in : ℕ → ℕ → List ℕ → Bool
-names-in n zero xs = true
-names-in n (suc k) xs =
-    ltb (getD xs 0 0) n && (absent (getD xs 0 0) (chunks 2 k (drop 2 xs)) && names-in n k (drop 2 xs))
 
 -- "unspent": the client is one of the clients, and the sequence number above its last
 unfoldable pub key-in : List ℕ → ℕ → Bool

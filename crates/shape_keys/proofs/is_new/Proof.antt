@@ -1,6 +1,6 @@
 -- `shape_keys::is_new` meets its contract: a case for each answer.
 use borrow.Author.Needs.{needs}
-use Rattle.shape_row.specs.RowScan.{absent}
+use Rattle.shape_names.specs.NameScan.{absent}
 use Rattle.shape_keys.proofs.is_new.Statement.{statement}
 use Rattle.shape_keys.proofs.is_new.Tie as tie
 

@@ -5,8 +5,10 @@ use Prim.Native.Nat.{ℕ, _+_, _*_, _-_}
 use lib.ListN.{drop}
 use borrow.Author.Needs.{needs}
 use Rattle.cells.specs.Cells.{cells}
-use Rattle.shape_row.specs.RowScan.{names-in, cells-of}
-use Rattle.shape_row.specs.RowTests.{rest-cells, zeros-rest, sets-reads, sets-writes, sets-behind}
+use Rattle.shape_names.specs.NameScan.{names-in}
+use Rattle.shape_row.specs.RowScan.{cells-of}
+use Rattle.shape_names.specs.NameTests.{rest-cells}
+use Rattle.shape_row.specs.RowTests.{zeros-rest, sets-reads, sets-writes, sets-behind}
 use Rattle.shape_row.proofs.sets_ok.Statement.{statement}
 use Rattle.shape_row.proofs.sets_ok.Tie as tie
 

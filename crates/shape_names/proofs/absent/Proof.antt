@@ -1,12 +1,12 @@
--- `shape_row::absent` meets its contract: there is none where the first one's index is not below their number.
+-- `shape_names::absent` meets its contract: there is none where the first one's index is not below their number.
 use mathlib.Core.Path.{sym, ap, _∙_}
 use Prim.Native.Nat.{ℕ}
 use borrow.Author.Needs.{needs}
 use lib.Dec.{leb}
 use Rattle.cells.specs.Cells.{cells}
-use Rattle.shape_row.specs.RowTests.{absent-index}
-use Rattle.shape_row.proofs.absent.Statement.{statement}
-use Rattle.shape_row.proofs.absent.Tie as tie
+use Rattle.shape_names.specs.NameTests.{absent-index}
+use Rattle.shape_names.proofs.absent.Statement.{statement}
+use Rattle.shape_names.proofs.absent.Tie as tie
 
 key-index-requires : tie.Need-key-index-requires
 key-index-requires c κs = search needs

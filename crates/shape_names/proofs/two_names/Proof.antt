@@ -1,9 +1,9 @@
--- `shape_row::two_names` meets its contract: a law.
+-- `shape_names::two_names` meets its contract: a law.
 use borrow.Author.Needs.{needs}
 use Rattle.cells.specs.Cells.{cells}
-use Rattle.shape_row.specs.RowTests.{two-names}
-use Rattle.shape_row.proofs.two_names.Statement.{statement}
-use Rattle.shape_row.proofs.two_names.Tie as tie
+use Rattle.shape_names.specs.NameTests.{two-names}
+use Rattle.shape_names.proofs.two_names.Statement.{statement}
+use Rattle.shape_names.proofs.two_names.Tie as tie
 
 get-requires : tie.Need-get-requires
 get-requires c κs = search needs

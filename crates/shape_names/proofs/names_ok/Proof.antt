@@ -1,12 +1,12 @@
--- `shape_row::names_ok` meets its contract: the entries by their number.
+-- `shape_names::names_ok` meets its contract: the entries by their number.
 use mathlib.Core.Path.{sym, ap, _∙_}
 use Prim.Native.Nat.{ℕ}
 use borrow.Author.Needs.{needs}
 use Rattle.cells.specs.Cells.{cells}
-use Rattle.shape_row.specs.RowScan.{names-in}
-use Rattle.shape_row.specs.RowTests.{one-name}
-use Rattle.shape_row.proofs.names_ok.Statement.{statement}
-use Rattle.shape_row.proofs.names_ok.Tie as tie
+use Rattle.shape_names.specs.NameScan.{names-in}
+use Rattle.shape_names.specs.NameTests.{one-name}
+use Rattle.shape_names.proofs.names_ok.Statement.{statement}
+use Rattle.shape_names.proofs.names_ok.Tie as tie
 
 get-requires : tie.Need-get-requires
 get-requires c κs = search needs
