@@ -1,138 +1,25 @@
 // Exports for C and Rust (include/jobstore.h): nothing but wrappers over `replica`, named by the papers' words.
 // A slice is a pointer and a length. A result is a number, or a struct whose first number is 0 or the refusal.
-use model::Delivery;
-use model::Execution;
+use ffi_numbers::Committed;
+use ffi_numbers::Executed;
+use ffi_numbers::Found;
+use ffi_numbers::Valued;
 use model::Finding;
-use model::Reading;
-use model::Reply;
 ghost use mathlib.Core.Path.{_≡_};
 ghost use Rattle.model.specs.Calls.{by-values, opening, optimistic, execute, final, open-reader, read, close-reader, find};
 ghost use Rattle.model.specs.Limits.{standard};
-ghost use Rattle.model.specs.Answers.{reply, execution, delivery, reading, finding};
+ghost use Rattle.model.specs.Answers.{finding};
 ghost use Rattle.layout.specs.Offsets.{record-length, bodies-length};
 ghost use Rattle.queue.specs.Shown.{part};
-ghost use Rattle.ffi.specs.Exported.{lone, executed, committed, valued, found, Numbered, Exported};
+ghost use Rattle.ffi_numbers.specs.AnswerNumbers.{lone, executed, committed, valued, found};
+ghost use Rattle.ffi.specs.Exported.{Exported};
 ghost use Rattle.ffi.specs.ExportedPart.{Low, ShownPart};
-
-// Work: operations carried out, pending transactions now finished.
-#[repr(C)]
-pub struct Executed {
-    pub number: u32,
-    pub operations: u32,
-    pub finished: u32,
-}
-
-// Final delivery. `kept` is 1 where the early results were validated, 0 where the transaction was run again.
-#[repr(C)]
-pub struct Committed {
-    pub number: u32,
-    pub outcome: u32,
-    pub kept: u32,
-    pub stamp: u32,
-    pub stored: u32,
-}
-
-// Read.
-#[repr(C)]
-pub struct Valued {
-    pub number: u32,
-    pub value: i64,
-}
-
-// Find: the optimistic position and the length of the body.
-#[repr(C)]
-pub struct Found {
-    pub number: u32,
-    pub place: u32,
-    pub length: u32,
-}
 
 // Show body: which bytes of the body area.
 #[repr(C)]
 pub struct Part {
     pub start: u32,
     pub length: u32,
-}
-
-// An answer that is 0 or a refusal, as its number.
-fn reply_number(r: Reply) -> u32
-    ensures { λ n. ⌜ Numbered 0 (lone n) (reply r) ⌝ }
-{
-    match r {
-        Reply::Done => 0,
-        Reply::Refused(k) => k,
-    }
-}
-
-// Work's answer in the paper's numbers.
-fn execution_numbers(e: Execution) -> Executed
-    ensures { λ r. ⌜ Numbered 2 (executed r) (execution e) ⌝ }
-{
-    match e {
-        Execution::Executed(operations, finished) => Executed {
-            number: 0,
-            operations,
-            finished,
-        },
-        Execution::Refused(k) => Executed {
-            number: k,
-            operations: 0,
-            finished: 0,
-        },
-    }
-}
-
-// A final delivery's answer in the paper's numbers.
-fn delivery_numbers(d: Delivery) -> Committed
-    ensures { λ r. ⌜ Numbered 4 (committed r) (delivery d) ⌝ }
-{
-    match d {
-        Delivery::Committed(c) => Committed {
-            number: 0,
-            outcome: c.outcome,
-            kept: c.validated as u32,
-            stamp: c.timestamp.0,
-            stored: c.stored,
-        },
-        Delivery::Refused(k) => Committed {
-            number: k,
-            outcome: 0,
-            kept: 0,
-            stamp: 0,
-            stored: 0,
-        },
-    }
-}
-
-// Read's answer in the paper's numbers.
-fn reading_numbers(r: Reading) -> Valued
-    ensures { λ v. ⌜ Numbered 1 (valued v) (reading r) ⌝ }
-{
-    match r {
-        Reading::Value(value) => Valued { number: 0, value },
-        Reading::Refused(k) => Valued {
-            number: k,
-            value: 0,
-        },
-    }
-}
-
-// Find's answer in the paper's numbers.
-fn finding_numbers(f: Finding) -> Found
-    ensures { λ r. ⌜ Numbered 2 (found r) (finding f) ⌝ }
-{
-    match f {
-        Finding::Found(position, length) => Found {
-            number: 0,
-            place: position.0,
-            length,
-        },
-        Finding::Refused(k) => Found {
-            number: k,
-            place: 0,
-            length: 0,
-        },
-    }
 }
 
 // The part of the body area where the found body stands.
@@ -180,7 +67,7 @@ pub extern "C" fn jobstore_open(
     ensures { λ r. ⌜ Exported (opening (by-values n (now (values .entry)) stamp)) (now (records .entry), now (bodies .entry))
         (lone r) (now (records .exit), now (bodies .exit)) ⌝ }
 {
-    reply_number(replica::open(records, bodies, n, values, stamp))
+    ffi_numbers::reply_number(replica::open(records, bodies, n, values, stamp))
 }
 
 // Early delivery of a key and its body.
@@ -195,7 +82,7 @@ pub extern "C" fn jobstore_early(
     ensures { λ r. ⌜ Exported (optimistic client sequence (now (body .entry))) (now (records .entry), now (bodies .entry))
         (lone r) (now (records .exit), now (bodies .exit)) ⌝ }
 {
-    reply_number(replica::deliver_optimistic(records, bodies, client, sequence, body))
+    ffi_numbers::reply_number(replica::deliver_optimistic(records, bodies, client, sequence, body))
 }
 
 // Work of at most count operations.
@@ -203,7 +90,7 @@ pub extern "C" fn jobstore_early(
 pub extern "C" fn jobstore_work(records: &mut [u8], bodies: &[u8], count: u32) -> Executed
     ensures { λ r. ⌜ Exported (execute count) (now (records .entry), now (bodies .entry)) (executed r) (now (records .exit), now (bodies .entry)) ⌝ }
 {
-    execution_numbers(replica::execute(records, bodies, count))
+    ffi_numbers::execution_numbers(replica::execute(records, bodies, count))
 }
 
 // Final delivery of a key.
@@ -216,7 +103,7 @@ pub extern "C" fn jobstore_final(
 ) -> Committed
     ensures { λ r. ⌜ Exported (final client sequence) (now (records .entry), now (bodies .entry)) (committed r) (now (records .exit), now (bodies .exit)) ⌝ }
 {
-    delivery_numbers(replica::deliver_final(records, bodies, client, sequence))
+    ffi_numbers::delivery_numbers(replica::deliver_final(records, bodies, client, sequence))
 }
 
 // Open reader.
@@ -224,7 +111,7 @@ pub extern "C" fn jobstore_final(
 pub extern "C" fn jobstore_open_reader(records: &mut [u8], bodies: &[u8], reader: u32) -> u32
     ensures { λ r. ⌜ Exported (open-reader reader) (now (records .entry), now (bodies .entry)) (lone r) (now (records .exit), now (bodies .entry)) ⌝ }
 {
-    reply_number(replica::open_reader(records, bodies, reader))
+    ffi_numbers::reply_number(replica::open_reader(records, bodies, reader))
 }
 
 // Read: an object as of the reader's stamp.
@@ -232,7 +119,7 @@ pub extern "C" fn jobstore_open_reader(records: &mut [u8], bodies: &[u8], reader
 pub extern "C" fn jobstore_read(records: &[u8], bodies: &[u8], reader: u32, object: u32) -> Valued
     ensures { λ r. ⌜ Exported (read reader object) (now (records .entry), now (bodies .entry)) (valued r) (now (records .entry), now (bodies .entry)) ⌝ }
 {
-    reading_numbers(replica::read(records, bodies, reader, object))
+    ffi_numbers::reading_numbers(replica::read(records, bodies, reader, object))
 }
 
 // Close a reader.
@@ -240,7 +127,7 @@ pub extern "C" fn jobstore_read(records: &[u8], bodies: &[u8], reader: u32, obje
 pub extern "C" fn jobstore_close_reader(records: &mut [u8], bodies: &[u8], reader: u32) -> u32
     ensures { λ r. ⌜ Exported (close-reader reader) (now (records .entry), now (bodies .entry)) (lone r) (now (records .exit), now (bodies .entry)) ⌝ }
 {
-    reply_number(replica::close_reader(records, bodies, reader))
+    ffi_numbers::reply_number(replica::close_reader(records, bodies, reader))
 }
 
 // Find a pending key.
@@ -248,7 +135,7 @@ pub extern "C" fn jobstore_close_reader(records: &mut [u8], bodies: &[u8], reade
 pub extern "C" fn jobstore_find(records: &[u8], bodies: &[u8], client: u32, sequence: u32) -> Found
     ensures { λ r. ⌜ Exported (find client sequence) (now (records .entry), now (bodies .entry)) (found r) (now (records .entry), now (bodies .entry)) ⌝ }
 {
-    finding_numbers(replica::find(records, bodies, client, sequence))
+    ffi_numbers::finding_numbers(replica::find(records, bodies, client, sequence))
 }
 
 // The part is named by its start, since C has no slices: Find says where it is, and one check of the areas is enough.

@@ -1,11 +1,11 @@
--- `ffi::reading_numbers` gives the numbers of the answer. Assumes nothing.
+-- `ffi_numbers::reading_numbers` gives the numbers of the answer. Assumes nothing.
 use mathlib.Core.Path.{refl}
 use borrow.Author.Needs.{needs}
 use Rattle.model.specs.Calls.{numbers}
 use Rattle.arith.specs.IntegerLaws.{read-back}
-use Rattle.ffi.specs.Exported.{turned-back}
-use Rattle.ffi.proofs.reading_numbers.Statement.{statement}
-use Rattle.ffi.proofs.reading_numbers.Tie as tie
+use Rattle.ffi_numbers.specs.AnswerNumbers.{turned-back}
+use Rattle.ffi_numbers.proofs.reading_numbers.Statement.{statement}
+use Rattle.ffi_numbers.proofs.reading_numbers.Tie as tie
 
 enum-known-r : tie.Need-enum-known-r
 enum-known-r c = search needs

@@ -1,10 +1,10 @@
--- `ffi::delivery_numbers` gives the numbers of the answer. Assumes nothing.
+-- `ffi_numbers::delivery_numbers` gives the numbers of the answer. Assumes nothing.
 use mathlib.Core.Path.{refl}
 use borrow.Author.Needs.{needs}
 use Rattle.model.specs.Calls.{numbers}
-use Rattle.ffi.specs.Exported.{turned-back, flagged}
-use Rattle.ffi.proofs.delivery_numbers.Statement.{statement}
-use Rattle.ffi.proofs.delivery_numbers.Tie as tie
+use Rattle.ffi_numbers.specs.AnswerNumbers.{turned-back, flagged}
+use Rattle.ffi_numbers.proofs.delivery_numbers.Statement.{statement}
+use Rattle.ffi_numbers.proofs.delivery_numbers.Tie as tie
 
 enum-known-d : tie.Need-enum-known-d
 enum-known-d c = search needs

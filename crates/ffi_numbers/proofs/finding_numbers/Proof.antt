@@ -1,10 +1,10 @@
--- `ffi::finding_numbers` gives the numbers of the answer. Assumes nothing.
+-- `ffi_numbers::finding_numbers` gives the numbers of the answer. Assumes nothing.
 use mathlib.Core.Path.{refl}
 use borrow.Author.Needs.{needs}
 use Rattle.model.specs.Calls.{numbers}
-use Rattle.ffi.specs.Exported.{turned-back}
-use Rattle.ffi.proofs.finding_numbers.Statement.{statement}
-use Rattle.ffi.proofs.finding_numbers.Tie as tie
+use Rattle.ffi_numbers.specs.AnswerNumbers.{turned-back}
+use Rattle.ffi_numbers.proofs.finding_numbers.Statement.{statement}
+use Rattle.ffi_numbers.proofs.finding_numbers.Tie as tie
 
 enum-known-f : tie.Need-enum-known-f
 enum-known-f c = search needs

@@ -1,10 +1,10 @@
--- `ffi::reply_number` gives the numbers of the answer. Assumes nothing.
+-- `ffi_numbers::reply_number` gives the numbers of the answer. Assumes nothing.
 use mathlib.Core.Path.{refl}
 use borrow.Author.Needs.{needs}
 use Rattle.model.specs.Calls.{numbers}
-use Rattle.ffi.specs.Exported.{turned-back}
-use Rattle.ffi.proofs.reply_number.Statement.{statement}
-use Rattle.ffi.proofs.reply_number.Tie as tie
+use Rattle.ffi_numbers.specs.AnswerNumbers.{turned-back}
+use Rattle.ffi_numbers.proofs.reply_number.Statement.{statement}
+use Rattle.ffi_numbers.proofs.reply_number.Tie as tie
 
 enum-told : tie.Need-enum-told
 enum-told c = search needs

@@ -1,10 +1,10 @@
--- `ffi::execution_numbers` gives the numbers of the answer. Assumes nothing.
+-- `ffi_numbers::execution_numbers` gives the numbers of the answer. Assumes nothing.
 use mathlib.Core.Path.{refl}
 use borrow.Author.Needs.{needs}
 use Rattle.model.specs.Calls.{numbers}
-use Rattle.ffi.specs.Exported.{turned-back}
-use Rattle.ffi.proofs.execution_numbers.Statement.{statement}
-use Rattle.ffi.proofs.execution_numbers.Tie as tie
+use Rattle.ffi_numbers.specs.AnswerNumbers.{turned-back}
+use Rattle.ffi_numbers.proofs.execution_numbers.Statement.{statement}
+use Rattle.ffi_numbers.proofs.execution_numbers.Tie as tie
 
 enum-known-e : tie.Need-enum-known-e
 enum-known-e c = search needs

@@ -1,0 +1,122 @@
+// Answers in the papers' numbers, as structs that C can take: 0 and the results, or a refusal's number and zeros.
+use model::Delivery;
+use model::Execution;
+use model::Finding;
+use model::Reading;
+use model::Reply;
+ghost use Rattle.model.specs.Answers.{reply, execution, delivery, reading, finding};
+ghost use Rattle.ffi_numbers.specs.AnswerNumbers.{lone, executed, committed, valued, found, Numbered};
+
+// Work: operations carried out, pending transactions now finished.
+#[repr(C)]
+pub struct Executed {
+    pub number: u32,
+    pub operations: u32,
+    pub finished: u32,
+}
+
+// Final delivery. `kept` is 1 where the early results were validated, 0 where the transaction was run again.
+#[repr(C)]
+pub struct Committed {
+    pub number: u32,
+    pub outcome: u32,
+    pub kept: u32,
+    pub stamp: u32,
+    pub stored: u32,
+}
+
+// Read.
+#[repr(C)]
+pub struct Valued {
+    pub number: u32,
+    pub value: i64,
+}
+
+// Find: the optimistic position and the length of the body.
+#[repr(C)]
+pub struct Found {
+    pub number: u32,
+    pub place: u32,
+    pub length: u32,
+}
+
+// An answer that is 0 or a refusal, as its number.
+pub fn reply_number(r: Reply) -> u32
+    ensures { λ n. ⌜ Numbered 0 (lone n) (reply r) ⌝ }
+{
+    match r {
+        Reply::Done => 0,
+        Reply::Refused(k) => k,
+    }
+}
+
+// Work's answer in the paper's numbers.
+pub fn execution_numbers(e: Execution) -> Executed
+    ensures { λ r. ⌜ Numbered 2 (executed r) (execution e) ⌝ }
+{
+    match e {
+        Execution::Executed(operations, finished) => Executed {
+            number: 0,
+            operations,
+            finished,
+        },
+        Execution::Refused(k) => Executed {
+            number: k,
+            operations: 0,
+            finished: 0,
+        },
+    }
+}
+
+// A final delivery's answer in the paper's numbers.
+pub fn delivery_numbers(d: Delivery) -> Committed
+    ensures { λ r. ⌜ Numbered 4 (committed r) (delivery d) ⌝ }
+{
+    match d {
+        Delivery::Committed(c) => Committed {
+            number: 0,
+            outcome: c.outcome,
+            kept: c.validated as u32,
+            stamp: c.timestamp.0,
+            stored: c.stored,
+        },
+        Delivery::Refused(k) => Committed {
+            number: k,
+            outcome: 0,
+            kept: 0,
+            stamp: 0,
+            stored: 0,
+        },
+    }
+}
+
+// Read's answer in the paper's numbers.
+pub fn reading_numbers(r: Reading) -> Valued
+    ensures { λ v. ⌜ Numbered 1 (valued v) (reading r) ⌝ }
+{
+    match r {
+        Reading::Value(value) => Valued { number: 0, value },
+        Reading::Refused(k) => Valued {
+            number: k,
+            value: 0,
+        },
+    }
+}
+
+// Find's answer in the paper's numbers.
+pub fn finding_numbers(f: Finding) -> Found
+    ensures { λ r. ⌜ Numbered 2 (found r) (finding f) ⌝ }
+{
+    match f {
+        Finding::Found(position, length) => Found {
+            number: 0,
+            place: position.0,
+            length,
+        },
+        Finding::Refused(k) => Found {
+            number: k,
+            place: 0,
+            length: 0,
+        },
+    }
+}
