@@ -1,3 +1,2 @@
--- Plain: the rules of the plain kinds. Tail: zeros by units of an operation.
-pub mod Plain
+-- Tail: zeros by units of an operation.
 pub mod Tail

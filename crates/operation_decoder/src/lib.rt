@@ -7,79 +7,16 @@ ghost use lib.Seq.{slice};
 ghost use Rattle.operation.specs.Body.{body-length, size, allowed-at, each, decoded};
 ghost use Rattle.operation.specs.Columns.{most-operations};
 ghost use Rattle.cells.specs.Zeros.{zeros};
-ghost use Rattle.operation_decoder.specs.Plain.{Sound};
-
-// Whether each of the m operations keeps the rules of its kind, up to the first that does not. A column for each limit, by kind, built before the
-// loop; then one branch an operation on all of its limits.
-fn each_allowed(body: &[u8], m: usize, objects: usize) -> bool
-    requires { ⌜ (m ≡ size (now body)) × (m ≤ most-operations) × (length (now body) ≡ body-length m) ⌝ }
-    ensures { λ r. ⌜ r ≡ each (allowed-at objects (now (body .entry))) m ⌝ }
-{
-    let first_below = [4, 4, 4, 4, 4, 4, 1, 4];
-    let second_from = [0, 0, 0, 0, 0, 1, 0, 0];
-    let second_below = [objects, objects, 1, 4, 4, m, 1, 1];
-    let constant_from: [u64; 8] = [0, 0, 0, 0, 0, 0, 0, 1];
-    let constant_most: [u64; 8] = [0, 0, 0xffff_ffff_ffff_ffff, 0, 0, 0, 0, 1_000_000];
-    let mut i = 0;
-    while i < m {
-        let kind = operation::small(body[1 + 3 * i]);
-        if 8 <= kind {
-            return false;
-        }
-        let first = operation::small(body[2 + 3 * i]);
-        let second = operation::small(body[3 + 3 * i]);
-        let constant = words::load(body, 1 + 3 * m + 8 * i);
-        let from = second_from[kind];
-        let allowed = (first < first_below[kind])
-            & (from <= second)
-            & (second + from * i < second_below[kind])
-            & (constant_from[kind] <= constant)
-            & (constant <= constant_most[kind]);
-        if !allowed {
-            return false;
-        }
-        i += 1;
-    }
-    true
-}
-
-// The same where every operation is of a plain kind, load to subtract, whose rules are two limits and a constant of 0 (but for set). Where it is
-// false, nothing is said. Early exits for the limits; the constants, masked by kind, are collected, and looked at once at the end.
-fn plainly_allowed(body: &[u8], m: usize, objects: usize) -> bool
-    requires { ⌜ (m ≡ size (now body)) × (m ≤ most-operations) × (length (now body) ≡ body-length m) ⌝ }
-    ensures { λ r. ⌜ Sound r (each (allowed-at objects (now (body .entry))) m) ⌝ }
-{
-    let below = [objects, objects, 1, 4, 4];
-    let all: u64 = 0xffff_ffff_ffff_ffff;
-    let mask: [u64; 5] = [all, all, 0, all, all];
-    let mut seen: u64 = 0;
-    let mut i = 0;
-    while i < m {
-        let kind = operation::small(body[1 + 3 * i]);
-        if 5 <= kind {
-            return false;
-        }
-        if 4 <= operation::small(body[2 + 3 * i]) {
-            return false;
-        }
-        if below[kind] <= operation::small(body[3 + 3 * i]) {
-            return false;
-        }
-        seen = seen | (words::load(body, 1 + 3 * m + 8 * i) & mask[kind]);
-        i += 1;
-    }
-    seen == 0
-}
 
 // Whether each of the m operations keeps the rules of its kind: first as if all were of plain kinds, which most bodies have alone.
 fn all_allowed(body: &[u8], m: usize, objects: usize) -> bool
     requires { ⌜ (m ≡ size (now body)) × (m ≤ most-operations) × (length (now body) ≡ body-length m) ⌝ }
     ensures { λ r. ⌜ r ≡ each (allowed-at objects (now (body .entry))) m ⌝ }
 {
-    if plainly_allowed(body, m, objects) {
+    if operation_plain::plainly_allowed(body, m, objects) {
         true
     } else {
-        each_allowed(body, m, objects)
+        operation_columns::each_allowed(body, m, objects)
     }
 }
 

@@ -1,4 +1,4 @@
--- `operation_decoder::each_allowed` meets its contract. The loop's invariant: the operations passed are allowed. The measure: those to come.
+-- `operation_columns::each_allowed` meets its contract. The loop's invariant: the operations passed are allowed. The measure: those to come.
 -- What a turn tests is the rule of its operation, by the one law `tested-at`. Assumes nothing.
 use Prim.Native.Nat.{ℕ, _≤_, _-_}
 use mathlib.Core.Path.{_≡_, refl, sym, _∙_}
@@ -10,8 +10,8 @@ use denote.Ref.{now}
 use borrow.Author.Tests.{not-true, not-false}
 use Rattle.operation.specs.Body.{allowed-at, each}
 use Rattle.operation.specs.Columns.{tested, tested-at, times, no-kind, stops}
-use Rattle.operation_decoder.proofs.each_allowed.Statement.{statement}
-use Rattle.operation_decoder.proofs.each_allowed.Tie as tie
+use Rattle.operation_columns.proofs.each_allowed.Statement.{statement}
+use Rattle.operation_columns.proofs.each_allowed.Tie as tie
 
 abbrev Inv-loop : tie.InvT-loop
 Inv-loop body m objects first-below second-from second-below constant-from constant-most i₀ i = (i ≤ m) × (each (allowed-at objects body) i ≡ true)

@@ -1,4 +1,4 @@
--- `operation_decoder::plainly_allowed` meets its contract. Invariant: if nothing was seen, the operations passed are allowed. The measure: those to come.
+-- `operation_plain::plainly_allowed` meets its contract. Invariant: if nothing was seen, the operations passed are allowed. The measure: those to come.
 -- A turn is the one law `plain-turn`. Assumes nothing.
 use Prim.Native.Nat.{_≤_, _-_}
 use mathlib.Core.Path.{_≡_, refl}
@@ -7,9 +7,9 @@ use native.Mathlib.Omega.{arith}
 use denote.Ref.{now}
 use borrow.Author.Tests.{eqb-true}
 use Rattle.operation.specs.Body.{allowed-at, each}
-use Rattle.operation_decoder.specs.Plain.{sound-false, plain-turn}
-use Rattle.operation_decoder.proofs.plainly_allowed.Statement.{statement}
-use Rattle.operation_decoder.proofs.plainly_allowed.Tie as tie
+use Rattle.operation_plain.specs.Plain.{sound-false, plain-turn}
+use Rattle.operation_plain.proofs.plainly_allowed.Statement.{statement}
+use Rattle.operation_plain.proofs.plainly_allowed.Tie as tie
 
 abbrev Inv-loop : tie.InvT-loop
 Inv-loop body m objects below all mask seen₀ i₀ seen i = (i ≤ m) × (seen ≡ 0 → each (allowed-at objects body) i ≡ true)
