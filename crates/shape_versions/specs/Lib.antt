@@ -1,2 +1,3 @@
--- Lowest: the smallest open reader's cell.
+-- Lowest: the smallest open reader's cell. ClosedReaders: closed readers are as none.
 pub mod Lowest
+pub mod ClosedReaders

@@ -139,7 +139,7 @@ fn objects_alone(blocks: &[u8], readers: usize, n: usize, timestamp: u64) -> boo
     let mut left = n;
     while 0 < left {
         let end = at + w;
-        if shape_versions_quick::alone(&blocks[at..end], readers, timestamp) {
+        if shape_block_quick::alone(&blocks[at..end], readers, timestamp) {
             at = end;
             left -= 1;
         } else {

@@ -5,7 +5,7 @@ use mathlib.Core.Bool.{true}
 use Rattle.cells.specs.Cells.{cells}
 use Rattle.cells.specs.CellLaws.{cells-rest}
 use Rattle.cells.specs.Zeros.{zeros}
-use Rattle.shape_versions_quick.specs.Quick.{blocks-closed}
+use Rattle.shape_versions.specs.ClosedReaders.{blocks-closed}
 use Rattle.shape_versions.proofs.objects_ok.Statement.{statement}
 use Rattle.shape_versions.proofs.objects_ok.Tie as tie
 

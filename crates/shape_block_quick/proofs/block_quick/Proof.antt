@@ -1,8 +1,8 @@
--- `shape_versions_quick::block_quick` meets its contract: each arm says what its test says, and where there is none the answer is false.
+-- `shape_block_quick::block_quick` meets its contract: each arm says what its test says, and where there is none the answer is false.
 use borrow.Author.Needs.{needs}
-use Rattle.shape_versions_quick.specs.Quick.{none-sound}
-use Rattle.shape_versions_quick.proofs.block_quick.Statement.{statement}
-use Rattle.shape_versions_quick.proofs.block_quick.Tie as tie
+use Rattle.shape_block_quick.specs.Quick.{none-sound}
+use Rattle.shape_block_quick.proofs.block_quick.Statement.{statement}
+use Rattle.shape_block_quick.proofs.block_quick.Tie as tie
 
 get-requires : tie.Need-get-requires
 get-requires c κs = search needs

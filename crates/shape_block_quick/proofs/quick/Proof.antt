@@ -1,4 +1,4 @@
--- `shape_versions_quick::quick` meets its contract. Invariant: the chain of all versions is that of those from the k-th on, whichever readers d has, after one
+-- `shape_block_quick::quick` meets its contract. Invariant: the chain of all versions is that of those from the k-th on, whichever readers d has, after one
 -- of stamp upper. The measure is what is left of them.
 use borrow.Author.Needs.{needs}
 use native.Mathlib.Omega.{arith}
@@ -7,9 +7,9 @@ use Prim.Native.Nat.{ℕ, _≤_, _<_, _-_}
 use mathlib.Core.Path.{ap, sym}
 use Rattle.cells.specs.Cells.{cells}
 use Rattle.versions.specs.Block.{versions-in, chain}
-use Rattle.shape_versions_quick.specs.Quick.{Walked, walked-next, walked-end, none-sound}
-use Rattle.shape_versions_quick.proofs.quick.Statement.{statement}
-use Rattle.shape_versions_quick.proofs.quick.Tie as tie
+use Rattle.shape_block_quick.specs.Quick.{Walked, walked-next, walked-end, none-sound}
+use Rattle.shape_block_quick.proofs.quick.Statement.{statement}
+use Rattle.shape_block_quick.proofs.quick.Tie as tie
 
 abbrev Inv-loop : tie.InvT-loop
 Inv-loop block d q readers timestamp low count newest upper₀ i₀ k₀ upper i k = (1 ≤ k) × (k < count) × (i ≤ 16) × (upper ≤ newest) × Walked d (cells block) low count upper k

@@ -4,84 +4,27 @@ use mathlib.Core.Path.{_≡_, refl, sym, ap, _∙_}
 use mathlib.Core.Logic.{_⊎_, inl, inr, _≢_}
 use mathlib.Core.Bool.{Bool, true, false, cond, _&&_, _||_, true≢false}
 use mathlib.Core.List.{List, [], _∷_}
-use Prim.Native.Nat.{ℕ, zero, suc, _+_, _*_, _-_, _≤_, _<_}
+use Prim.Native.Nat.{ℕ, _+_, _*_, _-_, _≤_, _<_}
 use native.Mathlib.Omega.{arith}
 use lib.Dec.{eqb, leb, ltb}
-use lib.ListN.{length, getD, drop, set, replicate}
-use lib.Seq.{slice, getD-set-other}
-use borrow.Author.Tests.{lt-ltb, le-leb, ltb-true, leb-true, leb-false, eq-eqb, ne-eqb}
+use lib.ListN.{length, getD, drop}
+use lib.Seq.{slice}
+use borrow.Author.Tests.{lt-ltb, le-leb, ltb-true, leb-true, leb-false, eq-eqb}
 use Rattle.execution.specs.ReadAgreement.{both}
 use Rattle.cells.specs.Cells.{cells}
 use Rattle.cells.specs.Zeros.{zeros}
-use Rattle.model.specs.Lists.{any, all}
-use Rattle.model.specs.ListLaws.{All, all-at, all-set, any-has, or-left, or-right}
-use Rattle.model.specs.ShapeCheck.{versions-shaped}
-use Rattle.versions.specs.Block.{width, versions-in, block-versions, stamps, chunks, framed, block-ok, blocks-ok, between, lower, lowest, chain, chained}
+use Rattle.model.specs.Lists.{any}
+use Rattle.model.specs.ListLaws.{any-has, or-left, or-right}
+use Rattle.versions.specs.Block.{width, versions-in, block-ok, between, lower, lowest, chain, chained}
 use Rattle.versions.specs.OnePass.{le-or-lt, lowest-le}
 use Rattle.versions.specs.BlockLoops.{ok-none, ok-many, ok-late, ok-used, ok-chain, ok-single, ok-single-no, chain-next, chain-loose, chain-end}
+use Rattle.shape_readers.specs.OpenReaders.{Open, Known, open-in}
 
 -- ---- what contracts say
-
--- c is 0 or an open reader's cell
-abbrev pub Open : List ℕ → ℕ → Type 0
-Open rc c = 0 < c → any (eqb c) rc ≡ true
-
--- each of d is; d begins with 0
-pub record Known (rc d : List ℕ) : Type 0 where
-  pub none : getD d 0 0 ≡ 0
-  pub each : All (Open rc) d
-
--- c is put among d
-pub record Taken (c : ℕ) (d e : List ℕ) : Type 0 where
-  pub none : getD e 0 0 ≡ getD d 0 0
-  pub each : (rc : List ℕ) → Open rc c → All (Open rc) d → All (Open rc) e
 
 -- the answer true is sound, whichever readers' cells d has
 abbrev pub Sound : ℕ → ℕ → ℕ → List ℕ → List ℕ → Bool → Type 0
 Sound n timestamp low d bs t = (rc : List ℕ) → Known rc d → low ≡ lowest (timestamp + 1) rc → t ≡ true → block-ok n timestamp rc (cells bs) ≡ true
-
--- ---- sort_open
-
-pub open-none : (rc : List ℕ) (c : ℕ) → c ≡ 0 → Open rc c
-open-none rc c e h = absurd (omega arith)
-
-pub open-in : (rc d : List ℕ) → All (Open rc) d → (i : ℕ) → Open rc (getD d i 0)
-open-in rc d a i = all-at (Open rc) d 0 a (open-none rc 0 refl) i
-
-pub known-zeros : (rc d : List ℕ) → d ≡ replicate 17 0 → Known rc d
-known-zeros rc d e = rw e (record { none = refl; each = zeroed 17 })
-  where
-    zeroed : (n : ℕ) → All (Open rc) (replicate n 0)
-    zeroed zero = tt
-    zeroed (suc n) = (open-none rc 0 refl, zeroed n)
-
-pub known-taken : (rc d e : List ℕ) (c : ℕ) → Known rc d → Open rc c → Taken c d e → Known rc e
-known-taken rc d e c k o t = record { none = t .none ∙ k .none; each = t .each rc o (k .each) }
-
--- one of the cells is
-pub open-cell : (rc : List ℕ) (i c : ℕ) → i < length rc → c ≡ getD rc i 0 → Open rc c
-open-cell rc i c h e p = go′ rc i h e
-  where
-    go′ : (rc : List ℕ) (i : ℕ) → i < length rc → c ≡ getD rc i 0 → any (eqb c) rc ≡ true
-    go′ [] i h e = absurd (omega arith)
-    go′ (x ∷ rc) zero h e = or-left (eqb c x) (any (eqb c) rc) (eq-eqb c x e)
-    go′ (x ∷ rc) (suc i) h e = or-right (eqb c x) (any (eqb c) rc) (go′ rc i (omega arith) e)
-
--- ---- down
-
--- the first of d is not above upper
-pub not-first : (d : List ℕ) (i upper : ℕ) → getD d 0 0 ≡ 0 → upper < getD d i 0 → 1 ≤ i
-not-first d zero upper e h = absurd (omega arith)
-not-first d (suc i) upper e h = omega arith
-
--- ---- insert
-
--- a store behind the first
-pub taken-store : (c : ℕ) (d : List ℕ) (j x : ℕ) → 1 ≤ j → ((rc : List ℕ) → Open rc c → All (Open rc) d → Open rc x) → Taken c d (set d j x)
-taken-store c d j x h o = record { none = getD-set-other d j 0 x 0 (λ e. omega arith); each = λ rc oc a. all-set (Open rc) d j x a (o rc oc a) }
-
-pub taken-then : (c : ℕ) (d e f : List ℕ) → Taken c d e → Taken c e f → Taken c d f
-taken-then c d e f s t = record { none = t .none ∙ s .none; each = λ rc o a. t .each rc o (s .each rc o a) }
 
 -- ---- a version held
 
@@ -229,15 +172,3 @@ module _ (n timestamp : ℕ) (xs : List ℕ) (ex : length xs ≡ width n * 8) (k
       count (inl a) b = ok-none n timestamp [] xs ex k g (omega arith)
       count (inr a) (inl b) = chained (omega arith) b (leb f timestamp) (zeros (slice (1 + 2 * k) (width n) (cells xs))) refl refl
       count (inr a) (inr b) = ok-many n timestamp [] xs ex k g b
-
--- closed readers are as none
-stamps-closed : (rc : List ℕ) → zeros rc ≡ true → stamps rc ≡ []
-unfolding stamps
-stamps-closed [] h = refl
-stamps-closed (zero ∷ rc) h = stamps-closed rc h
-stamps-closed (suc r ∷ rc) h = absurd (true≢false (sym h ∙ ap (_&& zeros rc) (ne-eqb (suc r) 0 (λ e. omega arith))))
-
-pub blocks-closed : (n timestamp : ℕ) (rc : List ℕ) (m : ℕ) (cs : List ℕ) → zeros rc ≡ true → blocks-ok n timestamp rc m cs ≡ blocks-ok n timestamp [] m cs
-unfolding blocks-ok block-ok stamps
-blocks-closed n timestamp rc m cs h =
-    ap (λ (rs : List ℕ). all (λ bc. framed n bc && versions-shaped timestamp rs (block-versions bc)) (chunks (width n) m cs)) (stamps-closed rc h)

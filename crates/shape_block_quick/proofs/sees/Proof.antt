@@ -1,7 +1,7 @@
--- `shape_versions_quick::sees` meets its contract, from the two cells that were read.
+-- `shape_block_quick::sees` meets its contract, from the two cells that were read.
 use borrow.Author.Needs.{needs}
-use Rattle.shape_versions_quick.proofs.sees.Statement.{statement}
-use Rattle.shape_versions_quick.proofs.sees.Tie as tie
+use Rattle.shape_block_quick.proofs.sees.Statement.{statement}
+use Rattle.shape_block_quick.proofs.sees.Tie as tie
 
 mul-get : tie.Need-mul-get
 mul-get c = search needs

@@ -1,8 +1,8 @@
--- `shape_versions_quick::alone` meets its contract: a law for each way out.
+-- `shape_block_quick::alone` meets its contract: a law for each way out.
 use borrow.Author.Needs.{needs}
-use Rattle.shape_versions_quick.specs.Quick.{alone-one, alone-late, alone-many}
-use Rattle.shape_versions_quick.proofs.alone.Statement.{statement}
-use Rattle.shape_versions_quick.proofs.alone.Tie as tie
+use Rattle.shape_block_quick.specs.Quick.{alone-one, alone-late, alone-many}
+use Rattle.shape_block_quick.proofs.alone.Statement.{statement}
+use Rattle.shape_block_quick.proofs.alone.Tie as tie
 
 get-requires : tie.Need-get-requires
 get-requires c κs = search needs

@@ -1,8 +1,8 @@
--- `shape_versions_quick::single` meets its contract: one law, and false is sound.
+-- `shape_block_quick::single` meets its contract: one law, and false is sound.
 use borrow.Author.Needs.{needs}
-use Rattle.shape_versions_quick.specs.Quick.{single-sound, none-sound}
-use Rattle.shape_versions_quick.proofs.single.Statement.{statement}
-use Rattle.shape_versions_quick.proofs.single.Tie as tie
+use Rattle.shape_block_quick.specs.Quick.{single-sound, none-sound}
+use Rattle.shape_block_quick.proofs.single.Statement.{statement}
+use Rattle.shape_block_quick.proofs.single.Tie as tie
 
 get-requires : tie.Need-get-requires
 get-requires c κs = search needs

@@ -1,13 +1,13 @@
--- `shape_versions_quick::full` meets its contract. Invariant: where all readers asked so far see their versions, those before the k-th are held. The measure
+-- `shape_block_quick::full` meets its contract. Invariant: where all readers asked so far see their versions, those before the k-th are held. The measure
 -- is what is left of the versions.
 use Prim.Native.Nat.{_≤_, _-_}
 use mathlib.Core.Path.{refl}
 use native.Mathlib.Omega.{arith}
 use borrow.Author.Needs.{needs}
 use Rattle.cells.specs.Cells.{cells}
-use Rattle.shape_versions_quick.specs.Quick.{Climbed, climbed-next, climbed-end}
-use Rattle.shape_versions_quick.proofs.full.Statement.{statement}
-use Rattle.shape_versions_quick.proofs.full.Tie as tie
+use Rattle.shape_block_quick.specs.Quick.{Climbed, climbed-next, climbed-end}
+use Rattle.shape_block_quick.proofs.full.Statement.{statement}
+use Rattle.shape_block_quick.proofs.full.Tie as tie
 
 abbrev Inv-loop : tie.InvT-loop
 Inv-loop block d readers timestamp low count held₀ k₀ held k = (1 ≤ k) × (k ≤ count) × Climbed d (cells block) low count held k
