@@ -3,7 +3,7 @@ use mathlib.Core.Path.{_≡_, refl, sym, _∙_}
 use mathlib.Core.Logic.{_⊎_, inl, inr}
 use mathlib.Core.Bool.{Bool, true, false, _&&_, _||_, and-false, or-false}
 use mathlib.Core.List.{List}
-use Prim.Native.Nat.{ℕ, _+_, _*_, _≤_, _<_}
+use Prim.Native.Nat.{ℕ, _+_, _*_, _^_, _≤_, _<_}
 use native.Mathlib.Omega.{arith}
 use lib.Dec.{leb, ltb}
 use lib.ListN.{length, getD, drop}
@@ -49,6 +49,13 @@ smaller-no q x c l u = go′ (le-or-lt q u)
 
 pub smaller-low : (q x c : ℕ) → x ≤ c → (u : ℕ) → leb q u ≡ leb q u || (ltb c x && leb x u)
 smaller-low q x c h u = rw (le-ltb c x h) (sym (or-false (leb q u)))
+
+-- each loop starts from a number beside which no reader was seen yet: 0 from below, the greatest cell from above
+pub lower-start : (cs : List ℕ) (s c : ℕ) → between cs s c ≡ ltb s 0 || between cs s c
+lower-start cs s c = rw (le-ltb s 0 (omega arith))
+
+pub upper-start : (cs : List ℕ) (c u : ℕ) → u < 2 ^ 63 → between cs c u ≡ leb 18446744073709551615 u || between cs c u
+upper-start cs c u h = rw (lt-leb 18446744073709551615 u (omega arith))
 
 -- a turn of either loop, and its end: the readers from i on are left
 module _ (n i : ℕ) (xs : List ℕ) (e : length xs ≡ n * 8) (s u : ℕ) (whole a : Bool) (w : whole ≡ a || between (drop i (cells xs)) s u) where

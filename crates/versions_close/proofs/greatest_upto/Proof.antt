@@ -1,15 +1,13 @@
 -- `versions_close::greatest_upto` meets its contract. Invariant: a reader above s and not above c is one below p, or one from i on. The measure is what is left.
 use borrow.Author.Needs.{needs}
-use native.Mathlib.Omega.{arith}
 use lib.ListN.{drop}
 use Prim.Native.Nat.{ℕ, _≤_, _-_}
 use mathlib.Core.Path.{_≡_}
 use mathlib.Core.Bool.{_||_}
 use lib.Dec.{ltb}
-use borrow.Author.Tests.{le-ltb}
 use Rattle.cells.specs.Cells.{cells}
 use Rattle.versions.specs.Block.{between}
-use Rattle.versions_close.specs.Beside.{beside-next, beside-end}
+use Rattle.versions_close.specs.Beside.{lower-start, beside-next, beside-end}
 use Rattle.versions_close.proofs.greatest_upto.Statement.{statement}
 use Rattle.versions_close.proofs.greatest_upto.Tie as tie
 
@@ -20,7 +18,7 @@ abbrev μ-loop : tie.MeasureT-loop
 μ-loop snapshots readers c p₀ i₀ p i = readers - i
 
 loop-holds : tie.Need-loop-holds Inv-loop μ-loop
-loop-holds c = (search needs, λ s. rw (le-ltb s 0 (omega arith)))
+loop-holds c = (search needs, λ s. lower-start _ s _)
 
 get-requires : tie.Need-get-requires Inv-loop μ-loop
 get-requires c κs = search needs

@@ -1,15 +1,13 @@
 -- `versions_close::least_above` meets its contract. Invariant: a reader above c and not above u is one from q on, or one from i on. The measure is what is left.
 use borrow.Author.Needs.{needs}
-use native.Mathlib.Omega.{arith}
 use lib.ListN.{drop}
 use Prim.Native.Nat.{ℕ, _≤_, _<_, _-_}
 use mathlib.Core.Path.{_≡_}
 use mathlib.Core.Bool.{_||_}
 use lib.Dec.{leb}
-use borrow.Author.Tests.{lt-leb}
 use Rattle.cells.specs.Cells.{cells}
 use Rattle.versions.specs.Block.{between}
-use Rattle.versions_close.specs.Beside.{beside-next, beside-end}
+use Rattle.versions_close.specs.Beside.{upper-start, beside-next, beside-end}
 use Prim.Native.Nat.{_^_}
 use Rattle.versions_close.proofs.least_above.Statement.{statement}
 use Rattle.versions_close.proofs.least_above.Tie as tie
@@ -21,7 +19,7 @@ abbrev μ-loop : tie.MeasureT-loop
 μ-loop snapshots readers c q₀ i₀ q i = readers - i
 
 loop-holds : tie.Need-loop-holds Inv-loop μ-loop
-loop-holds c = (search needs, λ u h. rw (lt-leb 18446744073709551615 u (omega arith)))
+loop-holds c = (search needs, λ u h. upper-start _ _ u h)
 
 get-requires : tie.Need-get-requires Inv-loop μ-loop
 get-requires c κs = search needs
