@@ -2,9 +2,9 @@
 use mathlib.Core.Path.{_≡_, refl}
 use mathlib.Core.Bool.{true, false}
 use mathlib.Core.Option.{some}
-use mathlib.Core.List.{[], _∷_, _++_}
+use mathlib.Core.List.{List, [], _∷_, _++_, map}
 use Prim.Native.Nat.{ℕ, _+_, _*_, _-_, _^_}
-use lib.IntN.{pos, negsuc}
+use lib.IntN.{ℤ, pos, negsuc}
 use lib.ListN.{length, replicate, getD, set, take, drop}
 use mir.Syntax.{w64}
 use mir.Val.{toZ}
@@ -13,7 +13,7 @@ use Rattle.operation.specs.Encode.{encode}
 use Rattle.operation.specs.declared.Operation.the-variants.{Load, Store, Fail}
 use Rattle.execution.specs.Run.{start}
 use Rattle.model.specs.declared.Limits.{Limits}
-use Rattle.model.specs.Calls.{Call, by-values, opening, find, close-reader, show-body, refused, done, found, body}
+use Rattle.model.specs.Calls.{Call, by-values, opening, optimistic, execute, final, open-reader, read, find, close-reader, show-body, refused, done, found, body, numbers}
 use Rattle.model.specs.Replica.{Replica}
 use Rattle.model.specs.ShapeCheck.{versions-shaped, key-unspent, at-start, names-shaped, run-shaped, in-order, checked, run-encoded, encoded, shaped}
 use Rattle.model.specs.Computing.{computing}
@@ -23,7 +23,7 @@ use Rattle.layout.specs.Rows.{flat, chunks, table, pad-to}
 use Rattle.layout.specs.Layout.{Areas, parse, print, lengths, laid}
 use Rattle.layout.specs.Offsets.{last-at, reader-at, size-at, object-at, pending-at, row-at, record-length, stamp-at, value-at, counter-at, outcome-at, register-at, reads-at, entries-at, entry-at, body-at, bodies-length}
 use Rattle.layout.specs.Fit.{fit}
-use Rattle.layout.specs.Act.{act}
+use Rattle.layout.specs.Act.{act, unfit}
 
 abbrev tiny : Limits
 tiny = record { objects = 2; pending = 2; readers = 1; operations = 2 }
@@ -126,6 +126,24 @@ body-broken = (areas .0, set (areas .1) (bodies-length tiny - 1) 1)
 pub example-unfit : (fit tiny record-broken ≡ false) × (fit tiny body-broken ≡ false) × (act tiny (find 3 10) record-broken ≡ (refused 1, record-broken)) × (act tiny (show-body 3 10) body-broken ≡ (body [], body-broken))
 unfolding all-open
 example-unfit = (refl, refl, refl, refl)
+
+-- what each call yields where the areas are not as asked: "1 and zeros"
+unfoldable pub unfits : List (Call × List ℤ)
+unfits =
+    (opening (by-values 1 (pos 4 ∷ []) 0), pos 1 ∷ [])
+    ∷ (optimistic 3 11 [], pos 1 ∷ [])
+    ∷ (execute 1, pos 1 ∷ pos 0 ∷ pos 0 ∷ [])
+    ∷ (final 3 10, pos 1 ∷ pos 0 ∷ pos 0 ∷ pos 0 ∷ pos 0 ∷ [])
+    ∷ (open-reader 0, pos 1 ∷ [])
+    ∷ (close-reader 0, pos 1 ∷ [])
+    ∷ (read 0 0, pos 1 ∷ pos 0 ∷ [])
+    ∷ (find 3 10, pos 1 ∷ pos 0 ∷ pos 0 ∷ [])
+    ∷ (show-body 3 10, [])
+    ∷ []
+
+pub unfit-holds : map (λ x. numbers (x .0) (unfit (x .0))) unfits ≡ map (λ x. x .1) unfits
+unfolding computing unfits
+unfit-holds = refl
 
 -- an opening looks at the lengths alone
 abbrev opening-of-4 : Call

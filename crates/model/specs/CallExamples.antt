@@ -186,6 +186,8 @@ refusals =
     ∷ (optimistic 9 0 one, pos 4 ∷ [])  -- "sequence 0 is always spent"; full
     ∷ (optimistic 2 1 wrong, pos 5 ∷ [])  -- wrong, full
     ∷ (optimistic 1 2 wrong, pos 6 ∷ [])  -- full
+    ∷ (optimistic 1 2 (encode (replicate 9 Fail)), pos 6 ∷ [])  -- one operation too many; full
+    ∷ (optimistic 1 2 (encode (replicate 8 Fail)), pos 7 ∷ [])
     ∷ (optimistic 1 2 one, pos 7 ∷ [])
     ∷ (execute 4097, pos 14 ∷ pos 0 ∷ pos 0 ∷ [])
     ∷ (final 16 0, pos 3 ∷ pos 0 ∷ pos 0 ∷ pos 0 ∷ pos 0 ∷ [])  -- spent, not pending, last timestamp
@@ -253,15 +255,18 @@ pub leaving-holds : calls small (opened small (start-of (plain (pos 10 ∷ pos 2
 unfolding computing leaving
 leaving-holds = refl
 
--- document 01, case 9, with the standard limits: work 4,096 and 4,097, 33 optimistic deliveries, n 129 and 128; and readers 6 and 7
+-- document 01, case 9, with the standard limits: work 4,096 and 4,097, the 32nd optimistic delivery and the 33rd, n 129 and 128; and readers 6 and 7,
+-- bodies of 17 and 16 operations
 unfoldable pub borders : List Call
 borders =
     execute 4096
     ∷ execute 4097
     ∷ open-reader 6
     ∷ open-reader 7
-    ∷ (listed (λ i. optimistic 15 (suc i) one) 33 ++ (opening (by-values 129 (replicate 129 (pos 0)) 0) ∷ opening (by-values 128 (replicate 128 (pos 0)) 0) ∷ []))
+    ∷ optimistic 14 1 (encode (replicate 17 Fail))
+    ∷ optimistic 14 1 (encode (replicate 16 Fail))
+    ∷ (listed (λ i. optimistic 15 (suc i) one) 32 ++ (opening (by-values 129 (replicate 129 (pos 0)) 0) ∷ opening (by-values 128 (replicate 128 (pos 0)) 0) ∷ []))
 
-pub borders-hold : calls standard (opened standard (start-of (plain (pos 10 ∷ pos 20 ∷ pos 30 ∷ []) 0))) borders .0 ≡ executed 0 0 ∷ refused 14 ∷ done ∷ refused 10 ∷ (replicate 32 done ++ (refused 7 ∷ refused 2 ∷ done ∷ []))
+pub borders-hold : calls standard (opened standard (start-of (plain (pos 10 ∷ pos 20 ∷ pos 30 ∷ []) 0))) borders .0 ≡ executed 0 0 ∷ refused 14 ∷ done ∷ refused 10 ∷ refused 6 ∷ (replicate 32 done ++ (refused 7 ∷ refused 2 ∷ done ∷ []))
 unfolding computing borders
 borders-hold = refl

@@ -68,12 +68,20 @@ lines = ([], []) ∷ (pos 7 ∷ [], 55 ∷ []) ∷ (pos 0 ∷ negsuc 4 ∷ pos 1
 
 -- ---- bytes
 
--- 00, 7f, ff and how they are written
+-- 00, 7f, 9a, ff and how they are written
 abbrev some : List ℕ
-some = 0 ∷ 127 ∷ 255 ∷ []
+some = 0 ∷ 127 ∷ 154 ∷ 255 ∷ []
 
 abbrev written : List ℕ
-written = 48 ∷ 48 ∷ 55 ∷ 102 ∷ 102 ∷ 102 ∷ []
+written = 48 ∷ 48 ∷ 55 ∷ 102 ∷ 57 ∷ 97 ∷ 102 ∷ 102 ∷ []
+
+-- AF9A
+abbrev capitals : List ℕ
+capitals = 65 ∷ 70 ∷ 57 ∷ 65 ∷ []
+
+-- the bytes beside the digits, the capitals and the small letters
+abbrev beside : List ℕ
+beside = 47 ∷ 58 ∷ 64 ∷ 71 ∷ 96 ∷ 103 ∷ []
 
 -- both cases of the digits, and words that are no pairs of digits
 unfoldable pub pairings : List (List ℕ × Bool)
@@ -90,10 +98,16 @@ pub read : (map (λ e. unsigned-of 255 (e .0)) unsigneds ≡ map (λ e. e .1) un
 unfolding unsigneds numerals signeds front signed-of negative-of has-minus unsigned-of read-on digits decimal digit-of
 read = (refl, refl, refl)
 
-pub wrote : (map (λ e. numeral (e .0)) numerals ≡ map (λ e. e .1) numerals) × (map (λ e. line (e .0)) lines ≡ map (λ e. e .1) lines)
-unfolding numerals front lines spelt unsigned-numeral numeral spaced line
-wrote = (refl, refl)
+-- 18446744073709551615, the longest numeral
+abbrev longest : List ℕ
+longest =
+    49 ∷ 56 ∷ 52 ∷ 52 ∷ 54 ∷ 55 ∷ 52 ∷ 52 ∷ 48 ∷ 55 ∷ 51 ∷ 55 ∷ 48 ∷ 57 ∷ 53 ∷ 53 ∷ 49 ∷ 54 ∷ 49 ∷ 53 ∷ []
 
-pub hexadecimal : (spelled some ≡ written) × (hex-bytes written ≡ some) × (map (λ e. pairs (e .0)) pairings ≡ map (λ e. e .1) pairings)
+pub wrote : (map (λ e. numeral (e .0)) numerals ≡ map (λ e. e .1) numerals) × (map (λ e. line (e .0)) lines ≡ map (λ e. e .1) lines) × (unsigned-numeral 18446744073709551615 ≡ longest)
+unfolding numerals front lines spelt unsigned-numeral numeral spaced line
+wrote = (refl, refl, refl)
+
+pub hexadecimal : (spelled some ≡ written) × (hex-bytes written ≡ some) × (hex-bytes capitals ≡ 175 ∷ 154 ∷ []) × (map (λ e. pairs (e .0)) pairings ≡ map (λ e. e .1) pairings)
+    × (map (λ b. pairs (b ∷ 48 ∷ [])) beside ≡ map (λ b. false) beside) × (map (λ b. pairs (48 ∷ b ∷ [])) beside ≡ map (λ b. false) beside)
 unfolding pairings spelled glyph-of hex-bytes nibble-of pairs
-hexadecimal = (refl, refl, refl)
+hexadecimal = (refl, refl, refl, refl, refl, refl)
