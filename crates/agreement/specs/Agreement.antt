@@ -27,7 +27,7 @@ use Rattle.agreement.specs.TraceLaws.{dated, replica-same, reads-as-open
 -- What holds of a trace: the answers of its calls, and the replica that the areas say after them.
 pub record Demand3 {l : Limits} (x : Trace l) : Type 0 where
   -- outcomes, readers' answers and the committed table equal those of a plain table that runs the finally delivered jobs one after another, whatever
-  -- that table held before
+  -- that table was before
   pub serializable : (p : Serial) → Serializable (answers x, replica x) (serial.calls l p (list x))
   -- so two replicas with equal final deliveries agree, whatever their early orders: equal openings and accepted final deliveries, each key with its body,
   -- give equal results and committed tables, on areas of any two kinds, wherever the rest of either list fell

@@ -43,8 +43,8 @@ least = negsuc 9223372036854775807
 abbrev most : ℤ
 most = pos 9223372036854775807
 
-held : (z : ℤ) → (pos-part z < 2 ^ 63 + neg-part z) × (neg-part z ≤ 2 ^ 63 + pos-part z) → SFits w64 z
-held z h = fits→SFits z (in-range z h)
+range-fits : (z : ℤ) → (pos-part z < 2 ^ 63 + neg-part z) × (neg-part z ≤ 2 ^ 63 + pos-part z) → SFits w64 z
+range-fits z h = fits→SFits z (in-range z h)
 
 -- a number as the machine reads it
 pub as-read : {z : ℤ} → SFits w64 z → SFits w64 (toZ w64 (ofZ w64 z))
@@ -56,30 +56,30 @@ module _ {y : ℤ} (f : SFits w64 y) where
   range = fits-parts y (SFits→fits f)
 
   module _ (e : ltZ y (pos 0) ≡ true) where
-    pub next-held : SFits w64 (y +ℤ pos 1)
+    pub next-fits : SFits w64 (y +ℤ pos 1)
     unfolding pos-part neg-part
-    next-held = held _ (omega (arith, range, less-parts y (pos 0) e, sum-parts y (pos 1)))
+    next-fits = range-fits _ (omega (arith, range, less-parts y (pos 0) e, sum-parts y (pos 1)))
 
-    pub add-low-held : SFits w64 (least -ℤ (y +ℤ pos 1))
+    pub add-low-fits : SFits w64 (least -ℤ (y +ℤ pos 1))
     unfolding pos-part neg-part
-    add-low-held = held _ (omega (arith, range, less-parts y (pos 0) e, sum-parts y (pos 1), difference-parts least (y +ℤ pos 1)))
+    add-low-fits = range-fits _ (omega (arith, range, less-parts y (pos 0) e, sum-parts y (pos 1), difference-parts least (y +ℤ pos 1)))
 
-  pub add-high-held : ltZ y (pos 0) ≡ false → SFits w64 (most -ℤ y)
+  pub add-high-fits : ltZ y (pos 0) ≡ false → SFits w64 (most -ℤ y)
   unfolding pos-part neg-part
-  add-high-held e = held _ (omega (arith, range, not-less-parts y (pos 0) e, difference-parts most y))
+  add-high-fits e = range-fits _ (omega (arith, range, not-less-parts y (pos 0) e, difference-parts most y))
 
   module _ (e : ltZ (pos 0) y ≡ true) where
-    pub previous-held : SFits w64 (y -ℤ pos 1)
+    pub previous-fits : SFits w64 (y -ℤ pos 1)
     unfolding pos-part neg-part
-    previous-held = held _ (omega (arith, range, less-parts (pos 0) y e, difference-parts y (pos 1)))
+    previous-fits = range-fits _ (omega (arith, range, less-parts (pos 0) y e, difference-parts y (pos 1)))
 
-    pub subtract-low-held : SFits w64 (least +ℤ (y -ℤ pos 1))
+    pub subtract-low-fits : SFits w64 (least +ℤ (y -ℤ pos 1))
     unfolding pos-part neg-part
-    subtract-low-held = held _ (omega (arith, range, less-parts (pos 0) y e, difference-parts y (pos 1), sum-parts least (y -ℤ pos 1)))
+    subtract-low-fits = range-fits _ (omega (arith, range, less-parts (pos 0) y e, difference-parts y (pos 1), sum-parts least (y -ℤ pos 1)))
 
-  pub subtract-high-held : ltZ (pos 0) y ≡ false → SFits w64 (most +ℤ y)
+  pub subtract-high-fits : ltZ (pos 0) y ≡ false → SFits w64 (most +ℤ y)
   unfolding pos-part neg-part
-  subtract-high-held e = held _ (omega (arith, range, not-less-parts (pos 0) y e, sum-parts most y))
+  subtract-high-fits e = range-fits _ (omega (arith, range, not-less-parts (pos 0) y e, sum-parts most y))
 
 -- and is the edge
 module _ (x y : ℤ) where

@@ -8,8 +8,8 @@ ghost use Rattle.layout.specs.Offsets.{Sane};
 ghost use Rattle.final_commit.specs.Install.{Ready, Installs};
 ghost use Rattle.final_commit.specs.Publish.{Few, Publishing, Publishes};
 
-// One entry after another: the objects passed have their new version. Those not written keep theirs, since the shape check held each of them to be
-// needed. The readers' cells are lent apart: two parts of one area cannot be lent at a time.
+// One entry after another: the objects passed have their new version. Those not written keep theirs, since by the shape check each of them is held.
+// The readers' cells are lent apart: two parts of one area cannot be lent at a time.
 fn install<'a>(
     records: &mut [u8],
     readers: &[u8],

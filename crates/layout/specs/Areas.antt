@@ -155,7 +155,7 @@ module _ (l : Limits) (s : Sane l) where
           ap (λ (r : List Answer × Areas). fit l (r .1)) acts-open ∙ fit-print l s (calls l begun cs .1) (calls-shaped cs begun start g)
 
       -- DEMAND 3 on the areas: the answers of every list that starts with an accepted opening, on areas with any contents, and the committed
-      -- table that the areas say after it, are the serial table's, whatever the serial table held before
+      -- table that the areas say after it, are the serial table's, whatever the serial table was before
       pub serializable-on-areas : (p : Serial) → Serializable (acts l (opening o ∷ cs) a .0, parse l (acts l (opening o ∷ cs) a .1)) (serial.calls l p (opening o ∷ cs))
       serializable-on-areas p =
           let d = demand-3-on-states l o cs begun p (accepted .1 (facts begun)) in

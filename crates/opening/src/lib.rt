@@ -1,4 +1,4 @@
-// Opening: both lent areas are filled, whatever they held, with the replica of the start values and the start timestamp.
+// Opening: both lent areas are filled, whatever is in them, with the replica of the start values and the start timestamp.
 use model::Limits;
 ghost use mathlib.Core.Path.{_≡_};
 ghost use Rattle.model.specs.Calls.{plain};

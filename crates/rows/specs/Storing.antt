@@ -257,7 +257,7 @@ row-bytes xs ys n r hx hy lx ly e =
     sym (uncells-cells ys n hy ly) ∙ ap uncells e ∙ uncells-append (take 1 (cells xs)) r
     ∙ ap (_++ uncells r) (sym (uncells-take 1 (cells xs)) ∙ ap (take 8) (uncells-cells xs n hx lx))
 
--- a row that held some run holds the new one
+-- a row of some run holds the new one
 pub stored-back : (m : ℕ) (r : Row) (t : Counts) (g : List ℤ) (ro : List ℕ) (rv : List ℤ) (wo : List ℕ) (wv : List ℤ) (xs ys : List ℕ) → xs ≡ uncells (row m .enc r)
     → length xs ≡ entry-at m * 8 → Stored t g ro rv wo wv xs ys → ys ≡ uncells (row m .enc (r .0, run-of-arrays t g ro rv wo wv))
 stored-back m r t g ro rv wo wv xs ys e n k =

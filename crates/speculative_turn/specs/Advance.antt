@@ -48,7 +48,7 @@ pub record Ready (xs body : List ℕ) (vs : List ℤ) (budget : ℕ) : Type 0 wh
   pub long : entry-at (length (after xs body vs budget .reads) + length (after xs body vs budget .writes)) * 8 ≤ length xs
   pub sound : every (sound (object-count vs)) (after xs body vs budget .writes) ≡ true
 
--- the row ys holds the run q, if xs held a run
+-- the row ys holds the run q, if xs was the row of one
 abbrev pub Rewritten : List ℕ → List ℕ → Run → Type 0
 Rewritten xs ys q = (m : ℕ) (r : Row) → m < 2 ^ 64 → RowFits m r → xs ≡ uncells (row m .enc r) → ys ≡ uncells (row m .enc (r .0, q))
 

@@ -6,20 +6,20 @@ use lib.Signed.{ltZ}
 use mir.Syntax.{w64}
 use mir.Val.{toZ, ofZ}
 use mir.Facts.{toZ-ofZ}
-use Rattle.arith.proofs.Sums.{Edge, inside, value, overflow, as-read, next-held, add-low-held, add-high-held, add-low, add-high}
+use Rattle.arith.proofs.Sums.{Edge, inside, value, overflow, as-read, next-fits, add-low-fits, add-high-fits, add-low, add-high}
 use Rattle.arith.proofs.add.Statement.{statement}
 use Rattle.arith.proofs.add.Tie as tie
 use Rattle.arith.proofs.add.Reads as reads
 use Rattle.arith.proofs.add.Lts as lts
 
 add-edge : tie.Need-add-edge
-add-edge c = next-held (as-read (c .before .fits .y)) (c .if1 .taken)
+add-edge c = next-fits (as-read (c .before .fits .y)) (c .if1 .taken)
 
 sub-edge : tie.Need-sub-edge
-sub-edge c = rw (toZ-ofZ (add-edge c)) (add-low-held (as-read (c .before .fits .y)) (c .if1 .taken))
+sub-edge c = rw (toZ-ofZ (add-edge c)) (add-low-fits (as-read (c .before .fits .y)) (c .if1 .taken))
 
 sub-edge-2 : tie.Need-sub-edge-2
-sub-edge-2 c = add-high-held (as-read (c .before .fits .y)) (c .if1 .left)
+sub-edge-2 c = add-high-fits (as-read (c .before .fits .y)) (c .if1 .left)
 
 edge : (c : lts.Joined1 reads.Pre reads.Post) → let x = toZ w64 (ofZ w64 (c .before .args .x)) in let y = toZ w64 (ofZ w64 (c .before .args .y)) in Edge x (x +ℤ y) (toZ w64 (c .if1 .edge)) (ltZ y (pos 0))
 edge c =

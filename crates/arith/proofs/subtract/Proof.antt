@@ -6,20 +6,20 @@ use lib.Signed.{ltZ}
 use mir.Syntax.{w64}
 use mir.Val.{toZ, ofZ}
 use mir.Facts.{toZ-ofZ}
-use Rattle.arith.proofs.Sums.{Edge, inside, value, overflow, as-read, previous-held, subtract-low-held, subtract-high-held, subtract-low, subtract-high}
+use Rattle.arith.proofs.Sums.{Edge, inside, value, overflow, as-read, previous-fits, subtract-low-fits, subtract-high-fits, subtract-low, subtract-high}
 use Rattle.arith.proofs.subtract.Statement.{statement}
 use Rattle.arith.proofs.subtract.Tie as tie
 use Rattle.arith.proofs.subtract.Reads as reads
 use Rattle.arith.proofs.subtract.Lts as lts
 
 sub-edge : tie.Need-sub-edge
-sub-edge c = previous-held (as-read (c .before .fits .y)) (c .if1 .taken)
+sub-edge c = previous-fits (as-read (c .before .fits .y)) (c .if1 .taken)
 
 add-edge : tie.Need-add-edge
-add-edge c = rw (toZ-ofZ (sub-edge c)) (subtract-low-held (as-read (c .before .fits .y)) (c .if1 .taken))
+add-edge c = rw (toZ-ofZ (sub-edge c)) (subtract-low-fits (as-read (c .before .fits .y)) (c .if1 .taken))
 
 add-edge-2 : tie.Need-add-edge-2
-add-edge-2 c = subtract-high-held (as-read (c .before .fits .y)) (c .if1 .left)
+add-edge-2 c = subtract-high-fits (as-read (c .before .fits .y)) (c .if1 .left)
 
 edge : (c : lts.Joined1 reads.Pre reads.Post) → let x = toZ w64 (ofZ w64 (c .before .args .x)) in let y = toZ w64 (ofZ w64 (c .before .args .y)) in Edge x (x -ℤ y) (toZ w64 (c .if1 .edge)) (ltZ (pos 0) y)
 edge c =
