@@ -1,4 +1,5 @@
--- Entries, Run: a run of a body on a table. Agreement, Shape, Ended: its laws. Arrays, Tables: a run, and a table beside it, as the code holds them.
+-- Entries, Run: a run of a body on a table. ReadAgreement, RunShape, Ended: its laws. Arrays, TableLaws: a run, and a table beside it, as the code
+-- has them. RunExamples: computed.
 pub mod Entries
 pub mod Run
 pub mod ReadAgreement

@@ -1,5 +1,5 @@
--- Versions: installing a write set, on lists. Blocks: an object's block of the layout is that of `versions`. Install, Publish: what each function
--- asks and leaves, and the laws of its turns and steps. Positions: what the crates of a final delivery share.
+-- InstalledVersions: installing a write set, on lists. CommittedBlock: an object's block after a commit. Install, Publish: what each function asks
+-- and leaves, and the laws of its turns and steps. Positions: what the crates of a final delivery share.
 pub mod InstalledVersions
 pub mod CommittedBlock
 pub mod Install

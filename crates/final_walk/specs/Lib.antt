@@ -1,4 +1,4 @@
--- Places: a table by the cells in which its values stand. Recorded: the sets of a row, in its cells. Restart, Walk: what the walk asks and leaves.
+-- Places: a table by the cells in which its values stand. Recorded: the sets of a row, in its cells. RestartFrom, Walk: what the walk asks and leaves.
 pub mod Places
 pub mod Recorded
 pub mod RestartFrom

@@ -14,9 +14,6 @@ ghost use Rattle.final_walk.specs.Recorded.{reads-from, writes-from, Lyi
 ghost use Rattle.final_walk.specs.RestartFrom.{Restarts};
 ghost use Rattle.final_walk.specs.Walk.{Walking, Stale, Walks};
 
-// Where an object's newest value lies, in cells from its block's start: behind the count and the stamp.
-const NEWEST_VALUE: usize = 2;
-
 // Where the committed state stands: each object's newest value has its cell in the object's block, and the objects passed have theirs.
 pub fn committed_places(records: &[u8], l: Limits, places: &mut [usize; 128])
     requires { ⌜ Sane l ⌝ }
@@ -26,7 +23,7 @@ pub fn committed_places(records: &[u8], l: Limits, places: &mut [usize; 128])
     let n = cells::get(records, layout::size_at(l)) as usize;
     let mut o = 0;
     while o < n {
-        places[o] = layout::object_at(l, o) + NEWEST_VALUE;
+        places[o] = layout::object_at(l, o) + layout::NEWEST_VALUE;
         o += 1;
     }
 }

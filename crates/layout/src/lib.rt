@@ -31,6 +31,11 @@ pub const ROW_FIRST_ENTRY: usize = 9;
 // The cells of an entry: an object and a value.
 pub const ENTRY_WIDTH: usize = 2;
 
+// Where the parts of an object's newest version lie, in cells from the start of its block, behind the number of its versions.
+pub const NEWEST_STAMP: usize = 1;
+
+pub const NEWEST_VALUE: usize = 2;
+
 // Where the commit timestamp lies.
 pub const TIMESTAMP: usize = 0;
 

@@ -17,8 +17,8 @@ fn put_objects(blocks: &mut [u8], readers: usize, values: &[i64], timestamp: u64
     let mut i = 0;
     while i < values.len() {
         cells::put(blocks, at, 1);
-        cells::put(blocks, at + 1, timestamp);
-        cells::put_signed(blocks, at + 2, values[i]);
+        cells::put(blocks, at + layout::NEWEST_STAMP, timestamp);
+        cells::put_signed(blocks, at + layout::NEWEST_VALUE, values[i]);
         at += width;
         i += 1;
     }

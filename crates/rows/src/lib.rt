@@ -101,7 +101,7 @@ pub fn committed_values(records: &[u8], l: Limits, values: &mut [i64; 128]) -> u
     let n = cells::get(records, layout::size_at(l)) as usize;
     let mut i = 0;
     while i < n {
-        let at = layout::object_at(l, i) + 2;
+        let at = layout::object_at(l, i) + layout::NEWEST_VALUE;
         values[i] = cells::get_signed(records, at);
         i += 1;
     }

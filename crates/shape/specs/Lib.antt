@@ -1,4 +1,5 @@
--- Scan: the check as the code goes, in one pass. Whole: it is the shape check of the definitions. Lent: what contracts say. The others: laws.
+-- AreaScan: the check as the code goes, in one pass. ScanIsShape: it is the shape check of the definitions. LentRows: what contracts say. The others:
+-- laws.
 pub mod AreaScan
 pub mod LentRows
 pub mod RowLoop

@@ -1,4 +1,4 @@
--- Scan: the check as the code goes. Lent: what contracts say. The others: laws.
+-- ObjectScan: the check as the code goes. LentRecord: what contracts say. The others: laws.
 pub mod ObjectScan
 pub mod LentRecord
 pub mod HeaderLoop

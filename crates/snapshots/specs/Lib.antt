@@ -1,4 +1,4 @@
--- Answers: what the contracts say. Blocks: the objects as the crate `versions` prunes them. Readers: each way out of each call.
+-- ClosePruning: what the contracts say. ReaderBlocks: the objects as `versions_close` prunes them. ReaderAnswers: each way out of each call.
 pub mod ClosePruning
 pub mod ReaderBlocks
 pub mod ReaderAnswers

@@ -1,5 +1,5 @@
 -- Closing: definitions. Beside: the readers beside the one that closes. Seen: which version it saw. Dropped: a block without one version.
--- Close: one object. Walk: all of them.
+-- Close: one object. ObjectLoop: all of them.
 pub mod Closing
 pub mod Beside
 pub mod Seen

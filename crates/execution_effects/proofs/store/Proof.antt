@@ -1,4 +1,4 @@
--- `store`: each way out is a law of specs/Moves.antt; a value read back from its bits is itself.
+-- `store`: each way out is a law of specs/OneOperation; a value read back from its bits is itself.
 use native.Mathlib.Omega.{arith}
 use denote.Ref.{now}
 use borrow.Author.Needs.{needs}

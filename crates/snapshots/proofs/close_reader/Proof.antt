@@ -1,4 +1,4 @@
--- `snapshots::close_reader` meets its contract: each way out is a law of specs/Readers.antt.
+-- `snapshots::close_reader` meets its contract: each way out is a law of specs/ReaderAnswers.
 use mathlib.Core.Path.{refl, _∙_}
 use mathlib.Core.Option.{none}
 use Prim.Native.Nat.{_+_, _*_, _-_, _≤_, _<_}

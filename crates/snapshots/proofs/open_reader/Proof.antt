@@ -1,4 +1,4 @@
--- `snapshots::open_reader` meets its contract: each way out is a law of specs/Readers.antt.
+-- `snapshots::open_reader` meets its contract: each way out is a law of specs/ReaderAnswers.
 use mathlib.Core.Path.{_≡_}
 use Prim.Native.Nat.{_+_, _*_, _≤_}
 use native.Mathlib.Omega.{arith}

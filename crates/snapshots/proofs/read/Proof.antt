@@ -1,4 +1,4 @@
--- `snapshots::read` meets its contract: each way out is a law of specs/Readers.antt, and the block that is lent says the object's versions.
+-- `snapshots::read` meets its contract: each way out is a law of specs/ReaderAnswers, and the block that is lent says the object's versions.
 use mathlib.Core.Path.{_≡_}
 use Prim.Native.Nat.{_+_, _*_, _≤_}
 use native.Mathlib.Omega.{arith}
