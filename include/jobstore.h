@@ -29,7 +29,7 @@
 #include <stddef.h>
 #include <stdint.h>
 
-#define JOBSTORE_VERSION "0.1.0"
+#define JOBSTORE_VERSION "0.2.0"
 
 #ifdef __cplusplus
 extern "C" {
@@ -106,7 +106,8 @@ enum jobstore_kind {
     JOBSTORE_SKIP = 5,      /* if register first is below 0, the next `second` operations are passed over; not past the end */
     JOBSTORE_FAIL = 6,      /* the job ends; first and second are 0 */
     JOBSTORE_DIVIDE = 7     /* register first is divided by the constant, 1 to 1,000,000, and rounded to the nearest whole
-                               number, a half away from zero; second is 0 */
+                               number, an exact half to the even neighbour (5 / 2 is 2, 7 / 2 is 4, -5 / 2 is -2);
+                               second is 0 */
 };
 
 /* One operation of a body. The constant is 0 for kinds other than set and divide. */

@@ -95,6 +95,17 @@ static void commit(const char *what, uint32_t client, uint32_t sequence, uint32_
     say("  stored", r.stored, 1);
 }
 
+/* A price: object 0, 15 by now, divided by 6. An exact half, 2.5, goes to the even neighbour. */
+static void price(void)
+{
+    const struct jobstore_operation sixth[] = {
+        {JOBSTORE_LOAD, 0, 0, 0}, {JOBSTORE_DIVIDE, 0, 0, 6}, {JOBSTORE_STORE, 0, 2, 0}};
+    say("early price", early(5, 1, sixth, 3), 0);
+    commit("final price", 5, 1, 0, 5);
+    say("open reader 2", jobstore_open_reader(record, sizeof record, bodies, sizeof bodies, 2), 0);
+    say("object 2", value(2, 2), 2);
+}
+
 /* Refused: 4, zeros beside it, and not a byte changed. */
 static void spent(void)
 {
@@ -142,6 +153,7 @@ int main(void)
     say("object 0 as reader 0 sees it", value(0, 0), 10);
     say("close 0", jobstore_close_reader(record, sizeof record, bodies, sizeof bodies, 0), 0);
     commit("final B, next key", 2, 2, 0, 4);
+    price();
     header();
     return wrong;
 }

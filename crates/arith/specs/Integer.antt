@@ -1,7 +1,7 @@
 -- Signed 64-bit numbers: their range, sums that may leave it, and division to the nearest whole number. Assumes nothing.
 use Prim.Native.Nat.{ℕ, _+_, _*_, _/_, _%_, _^_}
-use mathlib.Core.Bool.{Bool, true, false}
-use lib.Dec.{ltb, leb, eqb}
+use mathlib.Core.Bool.{Bool, true, false, _||_, _&&_}
+use lib.Dec.{ltb, eqb}
 use lib.IntN.{ℤ, pos, negsuc, negℤ, natAbs}
 use lib.Signed.{mag}
 use Rattle.arith.specs.declared.Checked.{Checked}
@@ -19,10 +19,10 @@ pick-checked false a b = b
 abbrev pub bounded : ℤ → Checked
 bounded z = pick-checked (fits z) (Value z) Overflow
 
--- Whether the quotient q of a magnitude divided by d, with the remainder r, is rounded up: a half goes away from zero.
--- The rule for a half stands in this line alone.
+-- Whether the quotient q of a magnitude divided by d, with the remainder r, is rounded up: more than a half is, and "an exact half to the
+-- even neighbour" (document 02, S-9), so where q is odd. The rule for a half stands in this line alone.
 unfoldable pub rounds-up : ℕ → ℕ → ℕ → Bool
-rounds-up q r d = leb d (2 * r)
+rounds-up q r d = ltb d (2 * r) || (eqb d (2 * r) && eqb (q % 2) 1)
 
 abbrev pub pick-nat : Bool → ℕ → ℕ → ℕ
 pick-nat true a b = a

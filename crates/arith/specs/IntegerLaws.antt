@@ -1,14 +1,14 @@
 -- The laws of the definitions in Integer: the range, equality, bits and division; and sums of signed numbers for `omega`. Assumes nothing.
 use Prim.Native.Nat.{ℕ, zero, suc, _+_, _-_, _*_, _/_, _%_, _^_, _≤_, _<_}
 use mathlib.Core.Path.{_≡_, refl, sym, ap, subst, _∙_}
-use mathlib.Core.Bool.{Bool, true, false, not, cond}
-use native.Mathlib.Nat.{zero-mul, suc-mul, le-antisymm, le-mul-of-pos-right, lt-of-mul-lt-mul-right, div-add-mod', mod-lt}
+use mathlib.Core.Bool.{Bool, true, false, not, cond, _||_, _&&_}
+use native.Mathlib.Nat.{suc-mul, le-mul-of-pos-right, div-add-mod', mod-lt}
 use native.Mathlib.Numerals.{add-one}
 use native.Mathlib.Omega.{arith}
-use lib.Dec.{T, ltb}
-use lib.IntN.{ℤ, pos, negsuc, negℤ, subℕ, _+ℤ_, _-ℤ_, _*ℤ_, natAbs}
+use lib.Dec.{T, ltb, eqb}
+use lib.IntN.{ℤ, pos, negsuc, negℤ, subℕ, _+ℤ_, _-ℤ_}
 use lib.Signed.{mag, ltZ}
-use borrow.Author.Tests.{eq-eqb, eqb-true, leb-true, leb-false, ltb-true, ltb-false, lt-ltb, le-ltb}
+use borrow.Author.Tests.{eq-eqb, eqb-true, eqb-false, ltb-true, ltb-false, lt-ltb, le-ltb}
 use mir.Syntax.{w64}
 use mir.Val.{SFits, toZ, ofZ}
 use mir.Facts.{toZ-ofZ}
@@ -39,7 +39,7 @@ sum-parts (pos a) (negsuc b) = omega (arith, subℕ-parts a (suc b))
 sum-parts (negsuc a) (pos b) = omega (arith, subℕ-parts b (suc a))
 sum-parts (negsuc a) (negsuc b) = omega arith
 
-neg-parts : (y : ℤ) → (pos-part (negℤ y) ≡ neg-part y) × (neg-part (negℤ y) ≡ pos-part y)
+pub neg-parts : (y : ℤ) → (pos-part (negℤ y) ≡ neg-part y) × (neg-part (negℤ y) ≡ pos-part y)
 unfolding pos-part neg-part
 neg-parts (pos zero) = (refl, refl)
 neg-parts (pos (suc n)) = (refl, refl)
@@ -134,66 +134,65 @@ ne-eq-z x y h = by (eq-z x y) refl
 
 -- ---- division
 
--- all that the other laws know of the rule for rounding
-up-rest : (q r d : ℕ) → rounds-up q r d ≡ true → d ≤ 2 * r
-unfolding rounds-up
-up-rest q r d e = leb-true d (2 * r) e
+-- all that the other laws know of the rule for rounding: what is rounded up is a half at least, what is not is one at most, and a half tells
+-- the quotient's parity
+pub record Up (q r d : ℕ) : Type 0 where
+  pub rest : d ≤ 2 * r
+  pub half : d ≡ 2 * r → q % 2 ≡ 1
 
-down-rest : (q r d : ℕ) → rounds-up q r d ≡ false → 2 * r < d
-unfolding rounds-up
-down-rest q r d e = leb-false d (2 * r) e
+pub record Down (q r d : ℕ) : Type 0 where
+  pub rest : 2 * r ≤ d
+  pub half : d ≡ 2 * r → q % 2 ≡ 0
 
-at-most : (d p q : ℕ) → p * d < q * d + d → p ≤ q
-at-most d p q h = let l : p < suc q = lt-of-mul-lt-mul-right d (rw suc-mul h) in omega arith
+module _ (q r d : ℕ) where
+  up-by : (s t u : Bool) → ltb d (2 * r) ≡ s → eqb d (2 * r) ≡ t → eqb (q % 2) 1 ≡ u → (s || (t && u)) ≡ true → Up q r d
+  up-by true t u l e o y =
+      let h = ltb-true d (2 * r) l in record { rest = omega arith; half = λ e. absurd (omega arith) }
+  up-by false true true l e o y =
+      let h = eqb-true d (2 * r) e in record { rest = omega arith; half = λ e. eqb-true (q % 2) 1 o }
+  up-by false true false l e o y = absurd (subst T (sym y) tt)
+  up-by false false u l e o y = absurd (subst T (sym y) tt)
+
+  up : rounds-up q r d ≡ true → Up q r d
+  unfolding rounds-up
+  up = up-by (ltb d (2 * r)) (eqb d (2 * r)) (eqb (q % 2) 1) refl refl refl
+
+  down-by : (s t u : Bool) → ltb d (2 * r) ≡ s → eqb d (2 * r) ≡ t → eqb (q % 2) 1 ≡ u → (s || (t && u)) ≡ false → Down q r d
+  down-by true t u l e o y = absurd (subst T y tt)
+  down-by false true true l e o y = absurd (subst T y tt)
+  down-by false true false l e o y =
+      let h = eqb-false (q % 2) 1 o in
+      record { rest = ltb-false d (2 * r) l; half = λ e. omega arith }
+  down-by false false u l e o y =
+      record { rest = ltb-false d (2 * r) l; half = λ h. absurd (eqb-false d (2 * r) e h) }
+
+  down : rounds-up q r d ≡ false → Down q r d
+  unfolding rounds-up
+  down = down-by (ltb d (2 * r)) (eqb d (2 * r)) (eqb (q % 2) 1) refl refl refl
+
+pub next-times : (q d : ℕ) → (q + 1) * d ≡ q * d + d
+next-times q d = rw add-one (suc-mul q d)
+
+-- what holds of a magnitude's quotient, by the two ways in which it is rounded
+pub rounding : (a d : ℕ) (P : ℕ → Type 0) → (Up (a / d) (a % d) d → P (a / d + 1)) → (Down (a / d) (a % d) d → P (a / d)) → P (rounded a d)
+rounding a d P u w = by (rounds-up (a / d) (a % d) d) refl
+  where
+    by : (t : Bool) → rounds-up (a / d) (a % d) d ≡ t → P (pick-nat t (a / d + 1) (a / d))
+    by true e = u (up (a / d) (a % d) d e)
+    by false e = w (down (a / d) (a % d) d e)
 
 module _ (a d : ℕ) (h : 1 ≤ d) where
-  le-by : (t : Bool) → rounds-up (a / d) (a % d) d ≡ t → pick-nat t (a / d + 1) (a / d) ≤ a
-  le-by true e =
-      omega (arith, up-rest (a / d) (a % d) d e, div-add-mod' a d, le-mul-of-pos-right (a / d) h)
-  le-by false e = omega (arith, div-add-mod' a d, le-mul-of-pos-right (a / d) h)
-
   pub rounded-le : rounded a d ≤ a
-  rounded-le = le-by (rounds-up (a / d) (a % d) d) refl
+  rounded-le =
+      let m = le-mul-of-pos-right (a / d) h in
+      rounding a d (λ q. q ≤ a) (λ u. omega (arith, u .rest, div-add-mod' a d)) (λ w. omega (arith, div-add-mod' a d))
 
-  nearest-by : (t : Bool) → rounds-up (a / d) (a % d) d ≡ t → (2 * (pick-nat t (a / d + 1) (a / d) * d) ≤ 2 * a + d) × (2 * a + d < 2 * (pick-nat t (a / d + 1) (a / d) * d) + 2 * d)
-  nearest-by true e =
-      let r : (a / d + 1) * d ≡ a / d * d + d = rw add-one (suc-mul (a / d) d) in
-      omega (arith, up-rest (a / d) (a % d) d e, div-add-mod' a d, mod-lt a h)
-  nearest-by false e = omega (arith, down-rest (a / d) (a % d) d e, div-add-mod' a d)
-
-  -- a magnitude's quotient is nearest, and a half goes up: it is the only q with 2qd ≤ 2a + d < 2qd + 2d
-  pub nearest-magnitude : (2 * (rounded a d * d) ≤ 2 * a + d) × (2 * a + d < 2 * (rounded a d * d) + 2 * d)
-  nearest-magnitude = nearest-by (rounds-up (a / d) (a % d) d) refl
-
-  pub nearest-magnitude-only : (q : ℕ) → 2 * (q * d) ≤ 2 * a + d → 2 * a + d < 2 * (q * d) + 2 * d → q ≡ rounded a d
-  nearest-magnitude-only q l u =
-      let n = nearest-magnitude in
-      le-antisymm (at-most d q (rounded a d) (omega arith)) (at-most d (rounded a d) q (omega arith))
-
-twice-natAbs : (z : ℤ) (n : ℕ) → 2 * pos-part z ≤ n + 2 * neg-part z → 2 * neg-part z ≤ n + 2 * pos-part z → 2 * natAbs z ≤ n
-unfolding pos-part neg-part
-twice-natAbs (pos a) n h l = omega arith
-twice-natAbs (negsuc a) n h l = omega arith
-
-neg-times-parts : (q d : ℕ) → (pos-part (negℤ (pos q) *ℤ pos d) ≡ 0) × (neg-part (negℤ (pos q) *ℤ pos d) ≡ q * d)
-unfolding pos-part neg-part
-neg-times-parts zero d = (zero-mul d, sym (zero-mul d))
-neg-times-parts (suc q) d = neg-parts (pos (suc q * d))
-
--- the quotient is nearest: twice the distance from x to quotient x d times d is at most d
-pub nearest : (x : ℤ) (d : ℕ) → 1 ≤ d → 2 * natAbs (x -ℤ quotient x d *ℤ pos d) ≤ d
-unfolding quotient pos-part neg-part
-nearest (pos a) d h =
-    let t = pos (rounded a d * d) in
-    let p = difference-parts (pos a) t in
-    let n = nearest-magnitude a d h in
-    twice-natAbs (pos a -ℤ t) d (omega arith) (omega arith)
-nearest (negsuc a) d h =
-    let t = negℤ (pos (rounded (suc a) d)) *ℤ pos d in
-    let p = difference-parts (negsuc a) t in
-    let s = neg-times-parts (rounded (suc a) d) d in
-    let n = nearest-magnitude (suc a) d h in
-    twice-natAbs (negsuc a -ℤ t) d (omega arith) (omega arith)
+  -- a magnitude's quotient is nearest: 2qd is at most d from 2a
+  pub nearest-magnitude : (2 * (rounded a d * d) ≤ 2 * a + d) × (2 * a ≤ 2 * (rounded a d * d) + d)
+  nearest-magnitude =
+      rounding a d (λ q. (2 * (q * d) ≤ 2 * a + d) × (2 * a ≤ 2 * (q * d) + d))
+      (λ u. omega (arith, u .rest, next-times (a / d) d, div-add-mod' a d, mod-lt a h))
+      (λ w. omega (arith, w .rest, div-add-mod' a d))
 
 mag-neg : (q a : ℕ) → q ≤ suc a → mag (negℤ (pos q)) ≤ a
 mag-neg zero a h = omega arith

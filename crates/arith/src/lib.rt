@@ -68,12 +68,14 @@ fn on_side(x: i64, q: u64) -> i64
     }
 }
 
-// Whether the quotient q with the remainder r is rounded up. The rule for a half stands in this function alone.
+// Whether the quotient q with the remainder r is rounded up: past a half it is, and at an exact half where q is odd, so that the even
+// neighbour is taken. The rule for a half stands in this function alone. No branch: halves and their parity follow no pattern.
 fn rounds_up(q: u64, r: u64, d: u64) -> bool
     requires { ⌜ (r < d) × (d ≤ 2 ^ 63) ⌝ }
     ensures { λ b. ⌜ b ≡ rounds-up q r d ⌝ }
 {
-    d <= 2 * r
+    let twice = 2 * r;
+    (d < twice) | ((d == twice) & (q % 2 == 1))
 }
 
 // A magnitude divided by d, to the nearest whole number.

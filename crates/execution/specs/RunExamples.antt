@@ -109,9 +109,11 @@ moves =
     ∷ (turned, Skip 3 15, go turned 15)
     ∷ (mixed, Fail, halt failed)
     ∷ (turned, Fail, halt failed)
-    -- divide: to the nearest whole number, a half away from zero
+    -- divide: to the nearest whole number, an exact half to the even neighbour; first 17.5, 2.5, -16.5 and -5.5
     ∷ (mixed, Divide 0 4, go (pos 18 ∷ negsuc 32 ∷ pos 0 ∷ pos 9 ∷ []) 0)
-    ∷ (mixed, Divide 1 2, go (pos 70 ∷ negsuc 16 ∷ pos 0 ∷ pos 9 ∷ []) 0)
+    ∷ (mixed, Divide 0 28, go (pos 2 ∷ negsuc 32 ∷ pos 0 ∷ pos 9 ∷ []) 0)
+    ∷ (mixed, Divide 1 2, go (pos 70 ∷ negsuc 15 ∷ pos 0 ∷ pos 9 ∷ []) 0)
+    ∷ (mixed, Divide 1 6, go (pos 70 ∷ negsuc 5 ∷ pos 0 ∷ pos 9 ∷ []) 0)
     ∷ (mixed, Divide 2 5, go mixed 0)
     ∷ (mixed, Divide 3 4, go (pos 70 ∷ negsuc 32 ∷ pos 0 ∷ pos 2 ∷ []) 0)
     ∷ (turned, Divide 3 3, go (negsuc 4 ∷ pos 0 ∷ pos 8 ∷ negsuc 32 ∷ []) 0)

@@ -68,8 +68,9 @@ programs =
     ∷ (Skip 0 1 ∷ Fail ∷ [], nothing 1)
     -- fail: nothing is stored
     ∷ (Load 0 1 ∷ Store 0 0 ∷ Fail ∷ [], nothing 1)
-    -- divide, to the nearest whole number, a half away from zero
+    -- divide, to the nearest whole number, an exact half to the even neighbour: -7.5, -4.3 and 2.7, then 2.5, -2.5 and 3.5
     ∷ (Load 0 2 ∷ Divide 0 4 ∷ Store 0 0 ∷ Load 0 2 ∷ Divide 0 7 ∷ Store 0 1 ∷ Set 0 (pos 8) ∷ Divide 0 3 ∷ Store 0 2 ∷ [], (committed 0 false 8 3, new (negsuc 7) ∷ new (negsuc 3) ∷ new (pos 3) ∷ []))
+    ∷ (Load 0 0 ∷ Divide 0 4 ∷ Store 0 0 ∷ Load 0 2 ∷ Divide 0 12 ∷ Store 0 1 ∷ Set 0 (pos 14) ∷ Divide 0 4 ∷ Store 0 2 ∷ [], (committed 0 false 8 3, new (pos 2) ∷ new (negsuc 1) ∷ new (pos 4) ∷ []))
     ∷ []
 
 pub operations-hold : map (λ x. ran (x .0)) programs ≡ map (λ x. x .1) programs

@@ -87,8 +87,8 @@ impl Body {
         self.operation(Kind::Fail, 0, 0, 0)
     }
 
-    /// The register is divided by the constant, 1 to 1,000,000, and rounded to the nearest whole number, a half away
-    /// from zero.
+    /// The register is divided by the constant, 1 to 1,000,000, and rounded to the nearest whole number, an exact half
+    /// to the even neighbour: 5 / 2 is 2, 7 / 2 is 4, -5 / 2 is -2.
     pub fn divide(self, register: u8, constant: i64) -> Body {
         self.operation(Kind::Divide, register, 0, constant)
     }

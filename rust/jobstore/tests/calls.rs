@@ -94,8 +94,8 @@ fn case_5_a_reader_sees_the_table_of_its_opening() -> Result<(), Refusal> {
 }
 
 #[test]
-fn case_6_divide_rounds_a_half_away_from_zero() -> Result<(), Refusal> {
-    for (value, quotient) in [(7, 4), (-7, -4), (5, 3)] {
+fn case_6_divide_rounds_a_half_to_the_even_neighbour() -> Result<(), Refusal> {
+    for (value, quotient) in [(7, 4), (-7, -4), (5, 2), (-5, -2)] {
         let mut replica = Replica::opened(&[value], 0)?;
         replica.deliver_early((1, 1), Body::new().load(0, 0).divide(0, 2).store(0, 0))?;
         assert_eq!(committed(replica.deliver_final((1, 1))?), (Outcome::Done, false, 1, 1));

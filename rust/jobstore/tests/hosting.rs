@@ -278,6 +278,36 @@ fn opening_anew_with_the_values_of_the_end() -> Result<(), Refusal> {
     Ok(())
 }
 
+#[test]
+fn a_store_is_handed_over_by_values() -> Result<(), Refusal> {
+    let mut before = opened();
+    last(&mut before, (1, 1), &add(0, 5))?;
+    let stamp = last(&mut before, (2, 1), &copy(0, 1))?.stamp;
+    let mut after = Replica::opened(&table(&before), stamp)?;
+    assert_eq!(table(&after), table(&before));
+    assert_eq!(last(&mut after, (1, 2), &add(0, 5))?.stamp, stamp + 1);
+    assert_eq!(before.deliver_early((2, 1), copy(0, 1)), Err(Refusal::Spent));
+    assert_eq!(after.deliver_early((2, 1), copy(0, 1)), Ok(()));
+    Ok(())
+}
+
+/// The store on record becomes the 3 that the base's rounding made of 5 / 2: the read still matches, so it is kept.
+#[test]
+fn early_results_of_another_rule_are_kept() -> Result<(), Refusal> {
+    let mut here = Replica::opened(&[5, 0, 0], 0)?;
+    here.deliver_early((1, 1), Body::new().load(0, 0).divide(0, 2).store(0, 1))?;
+    let mut there = here.copy();
+    assert_eq!(here.work(100)?.finished, 1);
+    // docs/LAYOUT.md: row 0, the value of entry 1. Entry 0 is the read.
+    let stored = 17_616 + 80 + 16;
+    assert_eq!(here.record()[stored], 2);
+    here.areas_mut().0[stored] = 3;
+    assert!(here.deliver_final((1, 1))?.kept);
+    assert!(!there.deliver_final((1, 1))?.kept);
+    assert_eq!((table(&here), table(&there)), (vec![5, 3, 0], vec![5, 2, 0]));
+    Ok(())
+}
+
 /// And no other: what stands between backquotes and has two underscores is a test's name.
 #[test]
 fn the_guide_names_each_of_these_tests() {

@@ -40,7 +40,7 @@ fn object(random: &mut Random, n: usize, taste: Taste) -> usize {
 pub fn valid(random: &mut Random, n: usize, taste: Taste) -> Vec<u8> {
     let (a, b) = (object(random, n, taste), object(random, n, taste));
     let amount = value(random, taste.wild);
-    let body = match random.below(12) {
+    let body = match random.below(13) {
         0 | 1 => vec![Load(0, a), Set(1, amount), Subtract(0, 1), Store(0, a), Load(2, b), Add(2, 1), Store(2, b)],
         2 => vec![Load(0, a), Store(0, b)],
         3 => vec![Set(0, amount), Store(0, a)],
@@ -49,6 +49,7 @@ pub fn valid(random: &mut Random, n: usize, taste: Taste) -> Vec<u8> {
         6 => vec![Load(1, a), Skip(1, 2), Load(2, b), Fail, Store(1, b)],
         7 => vec![Store(0, b), Load(0, a), Skip(0, 1), Fail, Set(1, amount), Store(1, b)],
         8 => vec![Load(0, a), Load(1, b)],
+        9 => halved(random, taste.wild, b),
         _ => operations(random, n, taste),
     };
     if body.len() <= taste.most {
@@ -65,6 +66,15 @@ fn divisor(random: &mut Random) -> i64 {
         2 => random.between(1, LARGEST_DIVISOR as usize) as i64,
         _ => LARGEST_DIVISOR,
     }
+}
+
+/// A quotient that ends in a half, anywhere in 64 bits where `wild`.
+fn halved(random: &mut Random, wild: bool, to: usize) -> Vec<Operation> {
+    let most = if random.percent(50) { 8 } else { LARGEST_DIVISOR as usize / 2 };
+    let half = random.between(1, most) as i64;
+    let whole = value(random, wild) / (2 * half) * (2 * half);
+    let amount = if whole > 0 { whole - half } else { whole + half };
+    vec![Set(0, amount), Divide(0, 2 * half), Store(0, to)]
 }
 
 fn operations(random: &mut Random, n: usize, taste: Taste) -> Vec<Operation> {

@@ -1,6 +1,7 @@
 //! A transaction's body as document 01 describes it: bytes to operations and back.
 
 use crate::limits::REGISTERS;
+use std::cmp::Ordering;
 
 #[derive(Clone, Copy, PartialEq, Eq, Debug)]
 pub enum Operation {
@@ -121,11 +122,17 @@ pub fn encode(operations: &[Operation]) -> Vec<u8> {
     bytes
 }
 
-/// To the nearest whole number, a half away from zero; in 128 bits nothing overflows.
+/// To the nearest whole number, an exact half to the even neighbour. From the neighbour below, whatever the sign, and in
+/// 128 bits, where nothing overflows: the library goes by magnitudes.
 pub fn quotient(value: i64, divisor: i64) -> i64 {
-    let (magnitude, divisor) = (i128::from(value).abs(), i128::from(divisor));
-    let rounded = (2 * magnitude + divisor) / (2 * divisor);
-    (if value < 0 { -rounded } else { rounded }) as i64
+    let (value, divisor) = (i128::from(value), i128::from(divisor));
+    let below = value.div_euclid(divisor);
+    let up = match (2 * value.rem_euclid(divisor)).cmp(&divisor) {
+        Ordering::Less => 0,
+        Ordering::Equal => below.rem_euclid(2),
+        Ordering::Greater => 1,
+    };
+    (below + up) as i64
 }
 
 #[cfg(test)]
@@ -134,14 +141,27 @@ mod tests {
 
     #[test]
     fn quotients() {
-        let cases = [(7, 2, 4), (-7, 2, -4), (5, 2, 3), (-5, 2, -3), (4, 3, 1), (5, 3, 2), (-4, 3, -1), (0, 7, 0)];
+        let cases = [(7, 2, 4), (-7, 2, -4), (5, 2, 2), (-5, 2, -2), (4, 3, 1), (5, 3, 2), (-4, 3, -1), (0, 7, 0)];
         for (value, divisor, expected) in cases {
             assert_eq!(quotient(value, divisor), expected);
         }
         assert_eq!(quotient(i64::MAX, 1), i64::MAX);
         assert_eq!(quotient(i64::MIN, 1), i64::MIN);
         assert_eq!(quotient(i64::MAX, 2), 1 << 62);
+        assert_eq!(quotient(i64::MAX - 2, 2), (1 << 62) - 2);
         assert_eq!(quotient(i64::MIN, 2), -(1 << 62));
+        assert_eq!(quotient(i64::MIN + 3, 2), 2 - (1 << 62));
+    }
+
+    /// The paper's words, by trying every number: the nearest, and of two the even one.
+    #[test]
+    fn quotients_by_search() {
+        for divisor in 1..=12 {
+            for value in -60..=60 {
+                let nearest = (-60..=60i64).min_by_key(|&q| ((value - q * divisor).abs(), q.rem_euclid(2)));
+                assert_eq!(Some(quotient(value, divisor)), nearest, "{value} / {divisor}");
+            }
+        }
     }
 
     #[test]

@@ -118,11 +118,14 @@ impl Run {
     fn divide(&mut self, register: usize, divisor: i64) -> &'static str {
         let value = self.registers[register];
         self.registers[register] = quotient(value, divisor);
-        match (2 * (value % divisor).abs() == divisor, value < 0) {
-            (false, false) => "divide",
-            (false, true) => "divide a negative value",
-            (true, false) => "divide that ends in a half",
-            (true, true) => "divide a negative value that ends in a half",
+        let (half, even) = (2 * (value % divisor).abs() == divisor, value / divisor % 2 == 0);
+        match (half, even, value < 0) {
+            (false, _, false) => "divide",
+            (false, _, true) => "divide a negative value",
+            (true, true, false) => "divide that ends in a half, toward zero",
+            (true, true, true) => "divide a negative value that ends in a half, toward zero",
+            (true, false, false) => "divide that ends in a half, away from zero",
+            (true, false, true) => "divide a negative value that ends in a half, away from zero",
         }
     }
 

@@ -5,12 +5,12 @@ use Rattle.arith.specs.Integer.{rounds-up}
 use Rattle.arith.proofs.rounds_up.Statement.{statement}
 use Rattle.arith.proofs.rounds_up.Tie as tie
 
-mul-result : tie.Need-mul-result
-mul-result c = search needs
+mul-twice : tie.Need-mul-twice
+mul-twice c = search needs
 
 returns : tie.Need-returns
 unfolding rounds-up
 returns c = refl
 
 pub rounds-up-spec : {M : Type 1} → statement M
-rounds-up-spec = tie.close (tie.spec mul-result returns)
+rounds-up-spec = tie.close (tie.spec mul-twice returns)
