@@ -68,13 +68,14 @@ fn divisor(random: &mut Random) -> i64 {
     }
 }
 
-/// A quotient that ends in a half, anywhere in 64 bits where `wild`.
+/// A quotient that ends in a half: anywhere in 64 bits where `wild`, else a small one.
 fn halved(random: &mut Random, wild: bool, to: usize) -> Vec<Operation> {
     let most = if random.percent(50) { 8 } else { LARGEST_DIVISOR as usize / 2 };
     let half = random.between(1, most) as i64;
-    let whole = value(random, wild) / (2 * half) * (2 * half);
-    let amount = if whole > 0 { whole - half } else { whole + half };
-    vec![Set(0, amount), Divide(0, 2 * half), Store(0, to)]
+    let whole = if wild { value(random, wild) / (2 * half) } else { value(random, wild) };
+    // The half nearer to 0, so that nothing overflows.
+    let below = whole - i64::from(whole > 0);
+    vec![Set(0, (2 * below + 1) * half), Divide(0, 2 * half), Store(0, to)]
 }
 
 fn operations(random: &mut Random, n: usize, taste: Taste) -> Vec<Operation> {

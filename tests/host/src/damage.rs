@@ -43,19 +43,30 @@ fn damage(random: &mut Random, state: &State, areas: &mut Library) -> &'static s
     }
 }
 
+/// A byte's place in the area, mostly one that is in use.
+fn place(random: &mut Random, area: &[u8]) -> usize {
+    let used: Vec<usize> = (0..area.len()).filter(|&at| area[at] != 0).collect();
+    if used.is_empty() || random.percent(30) {
+        random.below(area.len())
+    } else {
+        random.pick(&used)
+    }
+}
+
 fn flip(random: &mut Random, areas: &mut Library) -> &'static str {
     let area = if random.percent(60) { &mut areas.record } else { &mut areas.bodies };
-    let used: Vec<usize> = (0..area.len()).filter(|&at| area[at] != 0).collect();
-    let at = if used.is_empty() || random.percent(30) { random.below(area.len()) } else { random.pick(&used) };
+    let at = place(random, area);
     area[at] ^= 1 << random.below(8);
     "bit flipped"
 }
 
+/// All bytes of an area, or some in a row: few of them, so that now and then only a value changes, and the areas pass.
 fn noise(random: &mut Random, areas: &mut Library) -> &'static str {
     let whole = random.percent(20);
     let area = if random.percent(60) { &mut areas.record } else { &mut areas.bodies };
-    let start = if whole { 0 } else { random.below(area.len()) };
-    let end = if whole { area.len() } else { (start + random.between(1, 64)).min(area.len()) };
+    let start = if whole { 0 } else { place(random, area) };
+    let most = random.pick(&[2, 8, 64]);
+    let end = if whole { area.len() } else { (start + random.between(1, most)).min(area.len()) };
     let fill = random.pick(&[None, None, Some(0), Some(1), Some(255)]);
     area[start..end].iter_mut().for_each(|byte| *byte = fill.unwrap_or(random.next() as u8));
     "bytes overwritten"
