@@ -88,7 +88,21 @@ impl Body {
     }
 
     /// The register is divided by the constant, 1 to 1,000,000, and rounded to the nearest whole number, an exact half
-    /// to the even neighbour: 5 / 2 is 2, 7 / 2 is 4, -5 / 2 is -2.
+    /// to the even neighbour.
+    ///
+    /// ```
+    /// # use jobstore::{Body, Refusal, Replica};
+    /// # fn main() -> Result<(), Refusal> {
+    /// let mut replica = Replica::opened(&[5, 7, -5], 0)?;
+    /// let halves = (0..3).fold(Body::new(), |body, object| body.load(0, object).divide(0, 2).store(0, object));
+    /// replica.deliver_early((1, 1), &halves)?;
+    /// replica.deliver_final((1, 1))?;
+    /// replica.open_reader(0)?;
+    /// let values = [replica.read(0, 0)?.value, replica.read(0, 1)?.value, replica.read(0, 2)?.value];
+    /// assert_eq!(values, [2, 4, -2]);
+    /// # Ok(())
+    /// # }
+    /// ```
     pub fn divide(self, register: u8, constant: i64) -> Body {
         self.operation(Kind::Divide, register, 0, constant)
     }
