@@ -15,9 +15,11 @@ use Rattle.arith.specs.IntegerLaws.{pos-part, neg-part, neg-parts, diffe
 
 -- ---- magnitudes
 
+-- how far apart two numbers are: one of the differences is 0
 abbrev distance : ℕ → ℕ → ℕ
 distance m n = m - n + (n - m)
 
+-- p times d is less than d above q times d, so p is not above q
 at-most : (d p q : ℕ) → p * d < q * d + d → p ≤ q
 at-most d p q h = let l : p < suc q = lt-of-mul-lt-mul-right d (rw suc-mul h) in omega arith
 
