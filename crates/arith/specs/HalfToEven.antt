@@ -4,13 +4,13 @@
 -- ends of 64 bits. Assumes nothing.
 use Prim.Native.Nat.{ℕ, zero, suc, _+_, _-_, _*_, _/_, _%_, _≤_, _<_}
 use mathlib.Core.Path.{_≡_, refl, sym, ap, _∙_}
-use mathlib.Core.Bool.{Bool, true, false, _||_, _&&_}
+use mathlib.Core.Bool.{Bool, true, false}
 use native.Mathlib.Nat.{zero-mul, suc-mul, le-antisymm, lt-of-mul-lt-mul-right, div-add-mod', mod-lt}
 use native.Mathlib.Omega.{arith}
-use lib.Dec.{ltb, leb, eqb}
+use lib.Dec.{leb, eqb}
 use lib.IntN.{ℤ, pos, negsuc, negℤ, _-ℤ_, _*ℤ_, natAbs}
-use borrow.Author.Tests.{ltb-true, ltb-false, eqb-true, eqb-false, ne-eqb, le-leb, lt-leb}
-use Rattle.arith.specs.Integer.{rounds-up, pick-nat, rounded, on-side, quotient}
+use borrow.Author.Tests.{eqb-true, eqb-false, le-leb, lt-leb}
+use Rattle.arith.specs.Integer.{pick-nat, rounded, on-side, quotient}
 use Rattle.arith.specs.IntegerLaws.{pos-part, neg-part, neg-parts, difference-parts, rounding, next-times, nearest-magnitude}
 
 -- ---- magnitudes
@@ -165,18 +165,13 @@ nearest-even-only (negsuc a) d (negsuc b) h n =
 unfoldable pub half-away : ℤ → ℕ → ℤ
 half-away z d = on-side z (pick-nat (leb d (2 * (natAbs z % d))) (natAbs z / d + 1) (natAbs z / d))
 
-rule-as-before : (q r d : ℕ) → (2 * r ≡ d → ⊥) → rounds-up q r d ≡ leb d (2 * r)
-unfolding rounds-up
-rule-as-before q r d h = by (ltb d (2 * r)) refl
-  where
-    by : (t : Bool) → ltb d (2 * r) ≡ t → (ltb d (2 * r) || (eqb d (2 * r) && eqb (q % 2) 1)) ≡ leb d (2 * r)
-    by true e = let l = ltb-true d (2 * r) e in rw (e, le-leb d (2 * r) (omega arith))
-    by false e =
-        let l = ltb-false d (2 * r) e in
-        rw (e, ne-eqb d (2 * r) (λ k. h (sym k)), lt-leb d (2 * r) (omega arith))
-
 -- "all other quotients are as before"
 pub as-before : (z : ℤ) (d : ℕ) → (ExactHalf z d → ⊥) → quotient z d ≡ half-away z d
 unfolding quotient half-away
 as-before z d h =
-    ap (λ (t : Bool). on-side z (pick-nat t (natAbs z / d + 1) (natAbs z / d))) (rule-as-before (natAbs z / d) (natAbs z % d) d h)
+    let a = natAbs z in
+    let r = a % d in
+    ap (on-side z)
+    (rounding a d (λ q. q ≡ pick-nat (leb d (2 * r)) (a / d + 1) (a / d))
+    (λ u. rw (le-leb d (2 * r) (u .rest)))
+    (λ w. rw (lt-leb d (2 * r) (omega (arith, w .rest, h)))))
