@@ -1,6 +1,7 @@
--- Entries, Run: a run of a body on a table. ReadAgreement, RunShape, Ended: its laws. Arrays, TableLaws: a run, and a table beside it, as the code
+-- Entries, Bounds, Run: a run of a body on a table. ReadAgreement, RunShape, Ended: its laws. Arrays, TableLaws: a run, and a table beside it, as the code
 -- has them. RunExamples: computed.
 pub mod Entries
+pub mod Bounds
 pub mod Run
 pub mod ReadAgreement
 pub mod RunShape

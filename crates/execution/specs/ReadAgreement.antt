@@ -1,6 +1,6 @@
 -- Read agreement: a run depends on its table by the values in its read set alone. An ended run is the whole run. Assumes nothing.
 use mathlib.Core.Path.{_≡_, refl, sym, ap, _∙_}
-use mathlib.Core.Bool.{Bool, true, false, _&&_, and-eq-true-iff, false≢true}
+use mathlib.Core.Bool.{Bool, true, false, cond, _&&_, and-eq-true-iff, false≢true}
 use mathlib.Core.Option.{Option, none, some}
 use mathlib.Core.List.{List, [], _∷_}
 use mathlib.Core.Logic.{_⊎_, inl, inr}
@@ -12,7 +12,7 @@ use Rattle.arith.specs.Integer.{eq-z}
 use Rattle.arith.specs.IntegerLaws.{eq-z-true}
 use Rattle.operation.specs.declared.Operation.{Operation}
 use Rattle.execution.specs.Entries.{Entry, append}
-use Rattle.execution.specs.Run.{Table, Move, get, put, go, halt, move, Run, start, known, got, apply, due, due-at, is-none, ended, obey, step, steps, whole, matches}
+use Rattle.execution.specs.Run.{Table, outside, Move, get, put, go, halt, move, Run, start, known, got, put-in, stopped, apply, due, due-at, is-none, ended, obey, step, steps, whole, matches}
 
 pub both : (a b : Bool) → a && b ≡ true → (a ≡ true) × (b ≡ true)
 both a b e = and-eq-true-iff a b .0 e
@@ -25,14 +25,20 @@ module _ (S : Table) where
       let k = matches-append l o v (h .1) in
       (rw (h .0, k .0), k .1)
 
-  module _ (R : Table) where
+  -- another table of the same bounds
+  module _ (R : Table) (bounds : S .allow ≡ R .allow) where
     got-agree : (r o : ℕ) (p : Run) (k : Option ℤ) → matches S (got R r o p k .reads) ≡ true → (matches S (p .reads) ≡ true) × (got S r o p k ≡ got R r o p k)
     got-agree r o p (some v) e = (e, refl)
     got-agree r o p none e = let h = matches-append (p .reads) o (R .look o) e in (h .0, rw (h .1))
 
     apply-agree : (m : Move) (p : Run) → matches S (apply R m p .reads) ≡ true → (matches S (p .reads) ≡ true) × (apply S m p ≡ apply R m p)
     apply-agree (get r o) p e = got-agree r o p (known p o) e
-    apply-agree (put o v) p e = (e, refl)
+    apply-agree (put o v) p e = put-agree (R .allow o v) e (λ i. bounds i o v)
+      where
+        put-agree : (t : Bool) → matches S (cond t (put-in o v p) (stopped outside p) .reads) ≡ true → S .allow o v ≡ t
+            → (matches S (p .reads) ≡ true) × (apply S (put o v) p ≡ cond t (put-in o v p) (stopped outside p))
+        put-agree true e q = (e, ap (λ (t : Bool). cond t (put-in o v p) (stopped outside p)) q)
+        put-agree false e q = (e, ap (λ (t : Bool). cond t (put-in o v p) (stopped outside p)) q)
     apply-agree (go g k) p e = (e, refl)
     apply-agree (halt c) p e = (e, refl)
 
@@ -85,7 +91,11 @@ module _ (S : Table) (b : List Operation) where
 
   pub apply-counter : (m : Move) (p : Run) → p .counter < apply S m p .counter
   apply-counter (get r o) p = omega arith
-  apply-counter (put o v) p = omega arith
+  apply-counter (put o v) p = by (S .allow o v)
+    where
+      by : (t : Bool) → p .counter < cond t (put-in o v p) (stopped outside p) .counter
+      by true = omega arith
+      by false = omega arith
   apply-counter (go g k) p = omega arith
   apply-counter (halt c) p = omega arith
 

@@ -2,7 +2,7 @@
 use mathlib.Core.Bool.{Bool, true, false, cond, _&&_}
 use mathlib.Core.Option.{Option, none, some, Option·getD}
 use mathlib.Core.List.{List, [], _∷_, head?}
-use Prim.Native.Nat.{ℕ, zero, suc, _+_}
+use Prim.Native.Nat.{ℕ, zero, suc, _+_, _*_, _/_}
 use lib.IntN.{ℤ, pos, _+ℤ_, _-ℤ_}
 use lib.Signed.{ltZ}
 use lib.ListN.{length, getD, set, drop, replicate}
@@ -11,26 +11,36 @@ use Rattle.operation.specs.Body.{register-count}
 use Rattle.operation.specs.declared.Operation.{Operation}
 use Rattle.operation.specs.declared.Operation.the-variants.{Load, Store, Set, Add, Subtract, Skip, Fail, Divide}
 use Rattle.execution.specs.Entries.{Entry, lookup, update, append}
+use Rattle.execution.specs.Bounds.{Bounds, inside}
 
--- what a run sees of the objects
+-- what a run sees of the objects: their values, and which values each may take
 pub record Table : Type 0 where
   pub look : ℕ → ℤ
+  pub allow : ℕ → ℤ → Bool
 
--- a list of values as a table; past its end 0
+-- A lent table has three numbers an object: value, lower bound, upper bound. Past its end all are 0.
+abbrev pub value-of : List ℤ → ℕ → ℤ
+value-of vs o = getD vs (o * 3) (pos 0)
+
+abbrev pub bounds-of : List ℤ → ℕ → Bounds
+bounds-of vs o = record { lower = getD vs (o * 3 + 1) (pos 0); upper = getD vs (o * 3 + 2) (pos 0) }
+
 abbrev pub table-of : List ℤ → Table
-table-of vs = record { look = λ o. getD vs o (pos 0) }
+table-of vs = record { look = value-of vs; allow = λ o. inside (bounds-of vs o) }
 
 -- how many objects it has. Contracts say no more of a lent table than these two.
 abbrev pub object-count : List ℤ → ℕ
-object-count vs = length vs
+object-count vs = length vs / 3
 
--- why a run stops before its end, and the outcome that says so: "1 fail, 2 overflow (an add or subtract that leaves 64 bits)"
+-- Why a run stops before its end, and the outcome that says so: "1 fail, 2 overflow (an add or subtract that leaves 64 bits)" and, since S-1 of
+-- document 02, "a store of a value outside .. stops the job with outcome 3"
 pub data Stop : Type 0 where
-  failed overflowed : Stop
+  failed overflowed outside : Stop
 
 abbrev pub outcome-of : Stop → ℕ
 outcome-of failed = 1
 outcome-of overflowed = 2
+outcome-of outside = 3
 
 -- What an operation asks for, given the registers. All that both interpreters, this one and the serial table's, see of an operation.
 pub data Move : Type 0 where
@@ -92,15 +102,21 @@ got T r o p k =
       writes = p .writes;
     }
 
+abbrev pub put-in : ℕ → ℤ → Run → Run
+put-in o v p =
+    record { counter = suc (p .counter); outcome = 0; registers = p .registers; reads = p .reads; writes = update (p .writes) o v }
+
+-- "With outcome 1 or 2 nothing is stored", nor with 3. The operation that stops the run counts as carried out.
+abbrev pub stopped : Stop → Run → Run
+stopped s p =
+    record { counter = suc (p .counter); outcome = outcome-of s; registers = p .registers; reads = p .reads; writes = [] }
+
 abbrev pub apply : Table → Move → Run → Run
 apply T (get r o) p = got T r o p (known p o)
-apply T (put o v) p =
-    record { counter = suc (p .counter); outcome = 0; registers = p .registers; reads = p .reads; writes = update (p .writes) o v }
+apply T (put o v) p = cond (T .allow o v) (put-in o v p) (stopped outside p)
 apply T (go g k) p =
     record { counter = suc (p .counter + k); outcome = 0; registers = g; reads = p .reads; writes = p .writes }
--- "With outcome 1 or 2 nothing is stored."
-apply T (halt s) p =
-    record { counter = suc (p .counter); outcome = outcome-of s; registers = p .registers; reads = p .reads; writes = [] }
+apply T (halt s) p = stopped s p
 
 -- the operation that is due: none where the run has stopped or is past the last
 abbrev pub due-at : List Operation → ℕ → ℕ → Option Operation
@@ -143,6 +159,6 @@ abbrev pub matches : Table → List Entry → Bool
 matches T [] = true
 matches T (e ∷ l) = eq-z (T .look (e .object)) (e .value) && matches T l
 
--- the table with a write set over it
+-- the table with a write set over it; the bounds stay
 abbrev pub over : List Entry → Table → Table
-over s T = record { look = λ o. Option·getD (lookup s o) (T .look o) }
+over s T = record { look = λ o. Option·getD (lookup s o) (T .look o); allow = T .allow }

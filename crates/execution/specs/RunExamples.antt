@@ -10,11 +10,23 @@ use Rattle.operation.specs.Encode.{written, encode}
 use Rattle.operation.specs.declared.Operation.{Operation}
 use Rattle.operation.specs.declared.Operation.the-variants.{Load, Store, Set, Add, Subtract, Skip, Fail, Divide}
 use Rattle.execution.specs.Entries.{Entry, entry}
+use Rattle.execution.specs.Bounds.{inside}
 use Rattle.execution.specs.Run.{Table, table-of, failed, overflowed, Move, get, put, go, halt, sum, move, Run, start, obey, step, steps, whole, counted, matches, over}
 
--- the objects of "A small depot": 10, 20, 30
+-- the ends of 64 bits
+abbrev most : ℤ
+most = pos 9223372036854775807
+
+abbrev least : ℤ
+least = negsuc 9223372036854775807
+
+-- the objects of "A small depot": 10, 20, 30, with the widest bounds
 abbrev depot : Table
-depot = table-of (pos 10 ∷ pos 20 ∷ pos 30 ∷ [])
+depot = table-of (pos 10 ∷ least ∷ most ∷ pos 20 ∷ least ∷ most ∷ pos 30 ∷ least ∷ most ∷ [])
+
+-- the same with bounds: 5 to 15, 0 to 40, -7 to 30
+abbrev bounded-depot : Table
+bounded-depot = table-of (pos 10 ∷ pos 5 ∷ pos 15 ∷ pos 20 ∷ pos 0 ∷ pos 40 ∷ pos 30 ∷ negsuc 6 ∷ pos 30 ∷ [])
 
 -- its transactions A, B and C
 unfoldable pub body-a : List Operation
@@ -45,13 +57,6 @@ filled b = Set 1 (pos 4) ∷ Set 2 (negsuc 4) ∷ Set 3 (pos 6) ∷ Set 0 (pos 0
 
 abbrev signs : List ℤ
 signs = pos 0 ∷ pos 4 ∷ negsuc 4 ∷ pos 6 ∷ []
-
--- the ends of 64 bits
-abbrev most : ℤ
-most = pos 9223372036854775807
-
-abbrev least : ℤ
-least = negsuc 9223372036854775807
 
 -- ---- one operation: what it asks for
 
@@ -163,6 +168,23 @@ examples =
     ∷ (Set 0 most ∷ Set 1 (negsuc 0) ∷ Add 0 1 ∷ [], stands 3 0 (hold (pos 9223372036854775806) (negsuc 0) (pos 0)) [] [])
     ∷ []
 
+-- a body, and what its whole run on the depot with bounds comes to
+unfoldable pub bounded-examples : List Example
+bounded-examples =
+    -- at each bound, and one beyond it: nothing is stored, and the store counts as carried out
+    (Set 0 (pos 5) ∷ Store 0 0 ∷ Set 1 (pos 15) ∷ Store 1 0 ∷ [], stands 4 0 (hold (pos 5) (pos 15) (pos 0)) [] (at 0 15 ∷ []))
+    ∷ (Set 0 (pos 4) ∷ Store 0 0 ∷ Fail ∷ [], stands 2 3 (hold (pos 4) (pos 0) (pos 0)) [] [])
+    ∷ (Set 0 (pos 16) ∷ Store 0 0 ∷ Fail ∷ [], stands 2 3 (hold (pos 16) (pos 0) (pos 0)) [] [])
+    ∷ (Set 0 (negsuc 6) ∷ Store 0 2 ∷ Set 1 (pos 30) ∷ Store 1 2 ∷ [], stands 4 0 (hold (negsuc 6) (pos 30) (pos 0)) [] (at 2 30 ∷ []))
+    ∷ (Set 0 (negsuc 7) ∷ Store 0 2 ∷ [], stands 2 3 (hold (negsuc 7) (pos 0) (pos 0)) [] [])
+    -- a tank with lower bound 0 that would hold -4; earlier stores go, reads stay
+    ∷ (Load 0 1 ∷ Set 1 (pos 24) ∷ Store 0 2 ∷ Subtract 0 1 ∷ Store 0 1 ∷ Store 1 0 ∷ [], stands 5 3 (hold (negsuc 3) (pos 24) (pos 0)) (at 1 20 ∷ []) [])
+    -- another object's bounds do not matter
+    ∷ (Set 0 (pos 16) ∷ Store 0 1 ∷ Store 0 2 ∷ [], stands 3 0 (hold (pos 16) (pos 0) (pos 0)) [] (at 1 16 ∷ at 2 16 ∷ []))
+    -- a load is not asked about
+    ∷ (Load 0 2 ∷ Store 0 1 ∷ [], stands 2 0 (hold (pos 30) (pos 0) (pos 0)) (at 2 30 ∷ []) (at 1 30 ∷ []))
+    ∷ []
+
 -- a run, how many operations of A's body it is given, where they lead, and how many of them are counted
 unfoldable pub parts : List (Run × ℕ × Run × ℕ)
 parts =
@@ -204,6 +226,7 @@ pub computed :
     × (map (λ e. counted depot body-a (e .1) (e .0)) parts ≡ map (λ e. e .3) parts)
     × (map (λ e. counted depot (e .0) 16 start) skips ≡ map (λ e. e .1) skips)
     × (map (λ e. matches depot (e .0)) agreements ≡ map (λ e. e .1) agreements)
+    × (map (λ e. whole bounded-depot (e .0)) bounded-examples ≡ map (λ e. e .1) bounded-examples)
     × (map (over (at 2 5 ∷ at 0 7 ∷ []) depot .look) (0 ∷ 1 ∷ 2 ∷ 3 ∷ []) ≡ pos 7 ∷ pos 20 ∷ pos 5 ∷ pos 0 ∷ [])
-unfolding body-a examples parts skips agreements start whole steps counted step obey move sum register-count fits quotient rounds-up operations listed encode written
-computed = (refl, refl, refl, refl, refl, refl)
+unfolding body-a examples bounded-examples parts skips agreements start whole steps counted step obey move sum register-count fits quotient rounds-up operations listed encode written inside
+computed = (refl, refl, refl, refl, refl, refl, refl)

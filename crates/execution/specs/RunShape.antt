@@ -19,7 +19,7 @@ use Rattle.operation.specs.BodyLaws.{Valid}
 use Rattle.operation.specs.declared.Operation.{Operation}
 use Rattle.operation.specs.declared.Operation.the-variants.{Load, Store, Set, Add, Subtract, Skip, Fail, Divide}
 use Rattle.execution.specs.Entries.{Entry, entry, lookup, update, append}
-use Rattle.execution.specs.Run.{Table, Stop, failed, overflowed, outcome-of, Move, get, put, go, halt, register, sum, move, Run, start, or-else, recorded, apply, due, ended, obey, step, steps, over}
+use Rattle.execution.specs.Run.{Table, Stop, failed, overflowed, outside, outcome-of, Move, get, put, go, halt, register, sum, move, Run, start, known, or-else, recorded, got, put-in, stopped, apply, due, ended, obey, step, steps, over}
 use Rattle.execution.specs.ReadAgreement.{both}
 
 abbrev pub is-some : {A : Type 0} → Option A → Bool
@@ -146,7 +146,7 @@ register-fits (x ∷ l) (suc i) h = register-fits l i (both (fits x) (all-fit l)
 pub record Shaped (n : ℕ) (b : List Operation) (p : Run) : Type 0 where
   pub begun : (0 < p .counter) ⊎ (p ≡ start)
   pub within : p .counter ≤ length b
-  pub outcome : p .outcome ≤ 2
+  pub outcome : p .outcome ≤ 3
   pub stopped : (p .outcome ≡ 0) ⊎ (p .writes ≡ [])
   pub room : length (p .reads) + length (p .writes) ≤ p .counter
   pub reads : Entries n (p .reads)
@@ -185,9 +185,10 @@ fine n left Fail g v c a = tt
 fine n left (Divide r d) g v c a =
     (omega arith, length-set g r _ ∙ c, all-fit-set g r (quotient (register g r) d) (quotient-fits (register g r) d (register-fits g r a) (v .1)) a)
 
-pub stop-least : (s : Stop) → outcome-of s ≤ 2
+pub stop-least : (s : Stop) → outcome-of s ≤ 3
 stop-least failed = omega arith
 stop-least overflowed = omega arith
+stop-least outside = omega arith
 
 -- the operation at the counter, the rest after it
 drop-room : (b : List Operation) (i : ℕ) (x : Operation) (rest : List Operation) → drop i b ≡ x ∷ rest → length b ≡ suc (i + length rest)
@@ -200,6 +201,35 @@ module _ (n : ℕ) (b : List Operation) (S : Table) (values : (o : ℕ) → fits
   got-facts p o none (some w) ek ej h v = (lookup-fits n (p .reads) o w (v .reads .values) ej, v .reads, omega arith)
   got-facts p o none none ek ej h v =
       (values o, rw (← (update-absent (p .reads) o (S .look o) ej)) (entries-update n (p .reads) o (S .look o) h (values o) (v .reads)), rw (← (update-absent (p .reads) o (S .look o) ej)) (update-longer (p .reads) o (S .look o)))
+
+  -- a store inside the bounds, and an early stop
+  put-shaped : (p : Run) (o : ℕ) (w : ℤ) (left : ℕ) → Fine n left (put o w) → length b ≡ suc (p .counter + left) → Shaped n b p → Shaped n b (put-in o w p)
+  put-shaped p o w left f m v =
+      record {
+        begun = inl (omega arith);
+        within = omega arith;
+        outcome = omega arith;
+        stopped = inl refl;
+        room = (let k = v .room in omega (arith, update-longer (p .writes) o w));
+        reads = v .reads;
+        writes = entries-update n (p .writes) o w (f .0) (f .1) (v .writes);
+        count = v .count;
+        values = v .values;
+      }
+
+  stop-shaped : (p : Run) (s : Stop) (left : ℕ) → length b ≡ suc (p .counter + left) → Shaped n b p → Shaped n b (stopped s p)
+  stop-shaped p s left m v =
+      record {
+        begun = inl (omega arith);
+        within = omega arith;
+        outcome = stop-least s;
+        stopped = inr refl;
+        room = (let k = v .room in omega arith);
+        reads = v .reads;
+        writes = record { names = refl; values = refl };
+        count = v .count;
+        values = v .values;
+      }
 
   apply-shaped : (p : Run) (m : Move) (left : ℕ) → Fine n left m → length b ≡ suc (p .counter + left) → Shaped n b p → Shaped n b (apply S m p)
   apply-shaped p (get r o) left f m v =
@@ -215,18 +245,11 @@ module _ (n : ℕ) (b : List Operation) (S : Table) (values : (o : ℕ) → fits
         count = length-set (p .registers) r _ ∙ v .count;
         values = all-fit-set (p .registers) r _ (g .0) (v .values);
       }
-  apply-shaped p (put o w) left f m v =
-      record {
-        begun = inl (omega arith);
-        within = omega arith;
-        outcome = omega arith;
-        stopped = inl refl;
-        room = (let k = v .room in omega (arith, update-longer (p .writes) o w));
-        reads = v .reads;
-        writes = entries-update n (p .writes) o w (f .0) (f .1) (v .writes);
-        count = v .count;
-        values = v .values;
-      }
+  apply-shaped p (put o w) left f m v = by (S .allow o w)
+    where
+      by : (t : Bool) → Shaped n b (cond t (put-in o w p) (stopped outside p))
+      by true = put-shaped p o w left f m v
+      by false = stop-shaped p outside left m v
   apply-shaped p (go h k) left f m v =
       record {
         begun = inl (omega arith);
@@ -239,18 +262,7 @@ module _ (n : ℕ) (b : List Operation) (S : Table) (values : (o : ℕ) → fits
         count = f .1;
         values = f .2;
       }
-  apply-shaped p (halt s) left f m v =
-      record {
-        begun = inl (omega arith);
-        within = omega arith;
-        outcome = stop-least s;
-        stopped = inr refl;
-        room = (let k = v .room in omega arith);
-        reads = v .reads;
-        writes = record { names = refl; values = refl };
-        count = v .count;
-        values = v .values;
-      }
+  apply-shaped p (halt s) left f m v = stop-shaped p s left m v
 
   -- the body's operations are valid wherever the counter stands
   module _ (valid : (i : ℕ) (x : Operation) (rest : List Operation) → drop i b ≡ x ∷ rest → Valid n (length rest) x) where
@@ -289,6 +301,31 @@ start-shaped n b =
       count = length-replicate register-count (pos 0);
       values = all-fit-zeros register-count;
     }
+
+-- ---- bounds: every store on record is one that the table allows
+
+abbrev pub AllInside : (ℕ → ℤ → Bool) → List Entry → Type 0
+AllInside allow l = every (λ x. allow (x .object) (x .value)) l ≡ true
+
+module _ (b : List Operation) (S : Table) where
+  apply-inside : (p : Run) (m : Move) → AllInside (S .allow) (p .writes) → AllInside (S .allow) (apply S m p .writes)
+  apply-inside p (get r o) e = e
+  apply-inside p (put o v) e = by (S .allow o v) refl
+    where
+      by : (t : Bool) → S .allow o v ≡ t → AllInside (S .allow) (cond t (put-in o v p) (stopped outside p) .writes)
+      by true q = every-update (λ x. S .allow (x .object) (x .value)) (p .writes) o v q e
+      by false q = refl
+  apply-inside p (go g k) e = e
+  apply-inside p (halt s) e = refl
+
+  pub steps-inside : (k : ℕ) (p : Run) → AllInside (S .allow) (p .writes) → AllInside (S .allow) (steps S b k p .writes)
+  unfolding steps step obey
+  steps-inside zero p e = e
+  steps-inside (suc k) p e = by (due b (steps S b k p)) (steps-inside k p e)
+    where
+      by : (d : Option Operation) → AllInside (S .allow) (steps S b k p .writes) → AllInside (S .allow) (obey S (steps S b k p) d .writes)
+      by none e = e
+      by (some x) e = apply-inside (steps S b k p) (move x (steps S b k p .registers)) e
 
 -- an ended run with outcome 0 is past its last operation
 pub ended-counter : (n : ℕ) (b : List Operation) (p : Run) → Shaped n b p → ended b p ≡ true → p .outcome ≡ 0 → p .counter ≡ length b

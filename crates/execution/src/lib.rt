@@ -5,7 +5,6 @@ ghost use mathlib.Core.Bool.{true};
 ghost use Prim.Native.Nat.{_<_, _≤_};
 ghost use lib.ListN.{length};
 ghost use Rattle.operation.specs.Body.{operations};
-ghost use Rattle.execution.specs.Run as runs;
 ghost use Rattle.execution.specs.Run.{table-of, object-count, is-none, due-at, over};
 ghost use Rattle.execution.specs.RunShape.{every, sound};
 ghost use Rattle.execution.specs.Arrays.{capacity, entries};
@@ -19,6 +18,13 @@ pub struct Counts {
     pub writes: usize,
 }
 
+// A lent table has so many numbers an object: its value, then its lower and its upper bound.
+pub const ROW: usize = 3;
+// where they stand in it
+pub const LOWER: usize = 1;
+
+pub const UPPER: usize = 2;
+
 // Whether a run of this body has ended: stopped early, or past the last operation. Of the body its first byte alone is looked at.
 pub fn is_finished(body: &[u8], counter: usize, outcome: usize) -> bool
     requires { ⌜ 0 < length (now body) ⌝ }
@@ -30,31 +36,7 @@ pub fn is_finished(body: &[u8], counter: usize, outcome: usize) -> bool
     operation::small(body[0]) <= counter
 }
 
-// A table's value, 0 past its end: total, so that a read set is compared whatever objects it names.
-pub fn value_in(table: &[i64], o: usize) -> i64
-    ensures { λ v. ⌜ v ≡ table-of (now (table .entry)) .look o ⌝ }
-{
-    if o < table.len() { table[o] } else { 0 }
-}
-
-// Whether every value that a run read from outside itself is the table's: all entries passed have it.
-pub fn matches<'a>(table: &[i64], ro: &'a [usize; 16], rv: &'a [i64; 16], count: usize) -> bool
-    requires { ⌜ count ≤ capacity ⌝ }
-    ensures { λ r. ⌜ r ≡ runs.matches (table-of (now (table .entry))) (entries count (now (ro .entry)) (now (rv .entry))) ⌝ }
-{
-    let mut k = 0;
-    while k < count {
-        let here = value_in(table, ro[k]);
-        let read = rv[k];
-        if here != read {
-            return false;
-        }
-        k += 1;
-    }
-    true
-}
-
-// Lays a write set over a table, the last entry first, so that the first entry of an object counts.
+// Lays a write set over a table, the last entry first, so that the first entry of an object counts. The bounds stay.
 pub fn overlay<'a>(table: &mut [i64], wo: &'a [usize; 16], wv: &'a [i64; 16], count: usize)
     requires { ⌜ (count ≤ capacity) × (every (sound (object-count (now table))) (entries count (now wo) (now wv)) ≡ true) ⌝ }
     ensures table { λ _. ⌜ table-of (now (table .exit)) ≡ over (entries count (now (wo .entry)) (now (wv .entry))) (table-of (now (table .entry))) ⌝ }
@@ -63,7 +45,7 @@ pub fn overlay<'a>(table: &mut [i64], wo: &'a [usize; 16], wv: &'a [i64; 16], co
     let mut i = count;
     while 0 < i {
         i -= 1;
-        let o = wo[i];
-        table[o] = wv[i];
+        let at = wo[i] * ROW;
+        table[at] = wv[i];
     }
 }
