@@ -29,7 +29,7 @@
 #include <stddef.h>
 #include <stdint.h>
 
-#define JOBSTORE_VERSION "0.2.0"
+#define JOBSTORE_VERSION "0.3.0"
 
 #ifdef __cplusplus
 extern "C" {
@@ -37,7 +37,7 @@ extern "C" {
 
 enum jobstore_refusal {
     JOBSTORE_AREA = 1,            /* an area of wrong length, or (except at opening) whose contents fail the shape check */
-    JOBSTORE_OBJECTS = 2,         /* opening: n not 1 to 128, or not n values */
+    JOBSTORE_OBJECTS = 2,         /* opening: n not 1 to 128, or a wrong number of values or bounds */
     JOBSTORE_CLIENT = 3,          /* client above 15 */
     JOBSTORE_SPENT = 4,           /* key spent: the sequence number is not above the client's last committed one */
     JOBSTORE_PENDING = 5,         /* key already pending */
@@ -49,7 +49,8 @@ enum jobstore_refusal {
     JOBSTORE_READER_OPEN = 11,    /* reader open already */
     JOBSTORE_READER_CLOSED = 12,  /* reader not open */
     JOBSTORE_OBJECT = 13,         /* read: object n or more */
-    JOBSTORE_COUNT = 14           /* work count above 4,096 */
+    JOBSTORE_COUNT = 14,          /* work count above 4,096 */
+    JOBSTORE_BOUNDS = 15          /* opening: a lower bound above its upper, or a start value outside its bounds */
 };
 
 /* The cause of a refusal in words; of any other number, that it is none. */
@@ -59,7 +60,7 @@ static inline const char *jobstore_refusal_text(uint32_t number)
     case JOBSTORE_AREA:
         return "an area has the wrong length, or its contents fail the shape check";
     case JOBSTORE_OBJECTS:
-        return "the number of objects is not 1 to 128, or not that of the values";
+        return "the number of objects is not 1 to 128, or not that of the values or bounds";
     case JOBSTORE_CLIENT:
         return "the client is above 15";
     case JOBSTORE_SPENT:
@@ -84,6 +85,8 @@ static inline const char *jobstore_refusal_text(uint32_t number)
         return "the object's number is not below the number of objects";
     case JOBSTORE_COUNT:
         return "the work count is above 4,096";
+    case JOBSTORE_BOUNDS:
+        return "a lower bound is above its upper, or a start value is outside its bounds";
     default:
         return "no refusal";
     }
@@ -91,15 +94,16 @@ static inline const char *jobstore_refusal_text(uint32_t number)
 
 /* How a job's run ended. Only with the first is anything stored. */
 enum jobstore_outcome {
-    JOBSTORE_DONE = 0,     /* past the last operation */
-    JOBSTORE_FAILED = 1,   /* at a fail */
-    JOBSTORE_OVERFLOW = 2  /* at an add or subtract that leaves 64 bits */
+    JOBSTORE_DONE = 0,      /* past the last operation */
+    JOBSTORE_FAILED = 1,    /* at a fail */
+    JOBSTORE_OVERFLOW = 2,  /* at an add or subtract that leaves 64 bits */
+    JOBSTORE_OUTSIDE = 3    /* at a store of a value outside its object's bounds */
 };
 
 /* The kinds of operations. A register is 0 to 3 and holds 0 at the start of a job. */
 enum jobstore_kind {
     JOBSTORE_LOAD = 0,      /* register first takes object second */
-    JOBSTORE_STORE = 1,     /* object second takes register first */
+    JOBSTORE_STORE = 1,     /* object second takes register first; outside the object's bounds the job ends */
     JOBSTORE_SET = 2,       /* register first takes the constant; second is 0 */
     JOBSTORE_ADD = 3,       /* register first takes first plus register second */
     JOBSTORE_SUBTRACT = 4,  /* register first takes first minus register second */
@@ -177,18 +181,20 @@ struct jobstore_part {
 };
 
 /* The length of the record area in bytes, for arrays and as the library has it. */
-#define JOBSTORE_RECORD_LENGTH 28112
+#define JOBSTORE_RECORD_LENGTH 30160
 uint32_t jobstore_record_length(void);
 
 /* The length of the body area in bytes, likewise. */
 #define JOBSTORE_BODIES_LENGTH 5664
 uint32_t jobstore_bodies_length(void);
 
-/* Open: a replica of n objects with these start values (there must be exactly n) and this start stamp; nothing pending,
- * every reader closed, every client's last number 0. Both areas are filled, whatever they held.
- * Returns 0, or refusal 1, 2. */
+/* Open: a replica of n objects with these start values, lower and upper bounds (there must be exactly n of each) and this
+ * start stamp; nothing pending, every reader closed, every client's last number 0. An object takes the values from its lower
+ * to its upper bound, both included; INT64_MIN and INT64_MAX let it take any. Both areas are filled, whatever they held.
+ * Returns 0, or refusal 1, 2, 15. */
 uint32_t jobstore_open(uint8_t *record, size_t record_length, uint8_t *bodies, size_t bodies_length,
-                       uint32_t n, const int64_t *values, size_t values_length, uint32_t stamp);
+                       uint32_t n, const int64_t *values, size_t values_length, const int64_t *lower, size_t lower_length,
+                       const int64_t *upper, size_t upper_length, uint32_t stamp);
 
 /* Early delivery: the key (client 0 to 15, sequence number) and the body go to the end of the optimistic order.
  * A body is as jobstore_encode writes it; it is no part of the body area (see above).

@@ -47,9 +47,11 @@ static const struct jobstore_operation c[] = {{JOBSTORE_LOAD, 0, 0, 0}, {JOBSTOR
 static void open_depot(void)
 {
     const int64_t values[] = {10, 20, 30};
+    const int64_t lower[] = {INT64_MIN, INT64_MIN, INT64_MIN};
+    const int64_t upper[] = {INT64_MAX, INT64_MAX, INT64_MAX};
     say("record area", jobstore_record_length(), JOBSTORE_RECORD_LENGTH);
     say("body area", jobstore_bodies_length(), JOBSTORE_BODIES_LENGTH);
-    say("open", jobstore_open(record, sizeof record, bodies, sizeof bodies, 3, values, 3, 0), 0);
+    say("open", jobstore_open(record, sizeof record, bodies, sizeof bodies, 3, values, 3, lower, 3, upper, 3, 0), 0);
     say("early A", early(1, 1, a, 4), 0);
     say("early B", early(2, 1, b, 2), 0);
     say("early C", early(3, 1, c, 2), 0);
@@ -130,9 +132,9 @@ static void header(void)
     say("  no operation", (int64_t)jobstore_encode(body, parts, 0), 0);
     say("  17 operations", (int64_t)jobstore_encode(body, parts, JOBSTORE_MOST_OPERATIONS + 1), 0);
     say("early, no operation", early(4, 1, parts, 0), JOBSTORE_BODY);
-    for (uint32_t number = 0; number < 16; number++) {
+    for (uint32_t number = 0; number < 17; number++) {
         int none = strcmp(jobstore_refusal_text(number), "no refusal") == 0;
-        say("  without a text", none, number < JOBSTORE_AREA || JOBSTORE_COUNT < number);
+        say("  without a text", none, number < JOBSTORE_AREA || JOBSTORE_BOUNDS < number);
     }
 }
 

@@ -17,6 +17,14 @@ use Rattle.execution.specs.Run.{Table, outside, Move, get, put, go, halt
 pub both : (a b : Bool) → a && b ≡ true → (a ≡ true) × (b ≡ true)
 both a b e = and-eq-true-iff a b .0 e
 
+-- a store either takes place or stops the run
+pub put-either : (P : Run → Type 0) (S : Table) (o : ℕ) (v : ℤ) (p : Run) → P (put-in o v p) → P (stopped outside p) → P (apply S (put o v) p)
+put-either P S o v p taken refused = by (S .allow o v)
+  where
+    by : (t : Bool) → P (cond t (put-in o v p) (stopped outside p))
+    by true = taken
+    by false = refused
+
 module _ (S : Table) where
   matches-append : (l : List Entry) (o : ℕ) (v : ℤ) → matches S (append l o v) ≡ true → (matches S l ≡ true) × (S .look o ≡ v)
   matches-append [] o v e = (refl, eq-z-true (S .look o) v (both (eq-z (S .look o) v) true e .0))
@@ -91,11 +99,7 @@ module _ (S : Table) (b : List Operation) where
 
   pub apply-counter : (m : Move) (p : Run) → p .counter < apply S m p .counter
   apply-counter (get r o) p = omega arith
-  apply-counter (put o v) p = by (S .allow o v)
-    where
-      by : (t : Bool) → p .counter < cond t (put-in o v p) (stopped outside p) .counter
-      by true = omega arith
-      by false = omega arith
+  apply-counter (put o v) p = put-either (λ (q : Run). p .counter < q .counter) S o v p (omega arith) (omega arith)
   apply-counter (go g k) p = omega arith
   apply-counter (halt c) p = omega arith
 

@@ -20,7 +20,7 @@ use Rattle.operation.specs.declared.Operation.{Operation}
 use Rattle.operation.specs.declared.Operation.the-variants.{Load, Store, Set, Add, Subtract, Skip, Fail, Divide}
 use Rattle.execution.specs.Entries.{Entry, entry, lookup, update, append}
 use Rattle.execution.specs.Run.{Table, Stop, failed, overflowed, outside, outcome-of, Move, get, put, go, halt, register, sum, move, Run, start, known, or-else, recorded, got, put-in, stopped, apply, due, ended, obey, step, steps, over}
-use Rattle.execution.specs.ReadAgreement.{both}
+use Rattle.execution.specs.ReadAgreement.{both, put-either}
 
 abbrev pub is-some : {A : Type 0} → Option A → Bool
 is-some none = false
@@ -245,11 +245,8 @@ module _ (n : ℕ) (b : List Operation) (S : Table) (values : (o : ℕ) → fits
         count = length-set (p .registers) r _ ∙ v .count;
         values = all-fit-set (p .registers) r _ (g .0) (v .values);
       }
-  apply-shaped p (put o w) left f m v = by (S .allow o w)
-    where
-      by : (t : Bool) → Shaped n b (cond t (put-in o w p) (stopped outside p))
-      by true = put-shaped p o w left f m v
-      by false = stop-shaped p outside left m v
+  apply-shaped p (put o w) left f m v =
+      put-either (Shaped n b) S o w p (put-shaped p o w left f m v) (stop-shaped p outside left m v)
   apply-shaped p (go h k) left f m v =
       record {
         begun = inl (omega arith);

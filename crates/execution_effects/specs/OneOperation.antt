@@ -11,7 +11,7 @@ use Rattle.arith.specs.Integer.{fits, pick-checked, bounded}
 use Rattle.arith.specs.declared.Checked.the-variants.{Value, Overflow}
 use Rattle.operation.specs.Body.{listed}
 use Rattle.execution.specs.declared.Counts.{Counts}
-use Rattle.execution.specs.Run.{Table, Stop, overflowed, outcome-of, get, put, go, halt, sum, apply}
+use Rattle.execution.specs.Run.{Table, Stop, overflowed, outside, outcome-of, get, put, go, halt, sum, apply}
 use Rattle.execution.specs.RunShape.{update-absent}
 use Rattle.execution.specs.Arrays.{capacity, entries, run-of-arrays, Room, Bounded}
 use Rattle.execution_effects.specs.Effects.{Found, advanced, stopped, settled}
@@ -65,10 +65,14 @@ module _ (T : Table) (c : Counts) (registers : List ℤ) (ro : List ℕ) (rv : L
           rw
           (add-one (c .counter), add-one (c .reads), lookup-absent wo wv (c .writes) o j w a, lookup-absent ro rv (c .reads) o k v h, append-last ro rv (c .reads) o (T .look o) room l)
 
-  module _ (o j : ℕ) (v : ℤ) (w : Found wo (c .writes) o j) (l : c .writes < capacity) (room : Room wo wv) where
+  -- a store outside the bounds
+  pub store-outside : (o : ℕ) (v : ℤ) (t : Counts) → T .allow o v ≡ false → t ≡ stopped 3 c → run-of-arrays t registers ro rv wo wv ≡ apply T (put o v) (run-of-arrays c registers ro rv wo wv)
+  store-outside o v t a e = rw a (halted outside t e)
+
+  module _ (o j : ℕ) (v : ℤ) (a : T .allow o v ≡ true) (w : Found wo (c .writes) o j) (l : c .writes < capacity) (room : Room wo wv) where
     -- in its place
     pub store-again : (t : Counts) → j < c .writes → t ≡ advanced 0 c → run-of-arrays t registers ro rv (set wo j o) (set wv j v) ≡ apply T (put o v) (run-of-arrays c registers ro rv wo wv)
-    store-again t h e = rw (e, one-on, update-found wo wv (c .writes) o j w v room h (omega arith))
+    store-again t h e = rw (a, e, one-on, update-found wo wv (c .writes) o j w v room h (omega arith))
 
     -- at the end
     pub store-new :
@@ -77,4 +81,4 @@ module _ (T : Table) (c : Counts) (registers : List ℤ) (ro : List ℕ) (rv : L
     store-new h =
         let e : j ≡ c .writes = (let z = w .within in omega arith) in
         rw
-        (e, add-one (c .counter), add-one (c .writes), append-last wo wv (c .writes) o v room l, update-absent _ o v (lookup-absent wo wv (c .writes) o j w h))
+        (a, e, add-one (c .counter), add-one (c .writes), append-last wo wv (c .writes) o v room l, update-absent _ o v (lookup-absent wo wv (c .writes) o j w h))

@@ -1,5 +1,5 @@
 // What an operation does to a run: registers and program counter; a load by write set, read set and table, recorded in the read set; a store into
-// the write set.
+// the write set, where the object's bounds allow the value.
 use arith::Checked;
 use execution::Counts;
 ghost use mathlib.Core.Path.{_≡_};
@@ -30,7 +30,7 @@ pub fn stop(c: Counts, outcome: usize) -> Counts
     ensures { λ t. ⌜ t ≡ stopped outcome c ⌝ }
 {
     Counts {
-        counter: c.counter + 1,
+        counter: c.counter + 1, // this operation counts as carried out
         outcome,
         reads: c.reads,
         writes: 0, // nothing is stored
@@ -104,7 +104,7 @@ pub fn load<'a>(
     if k < reads {
         return assign(registers, c, r, rv[k]);
     }
-    let value = table[o];
+    let value = table[o * execution::ROW];
     ro[reads] = o;
     rv[reads] = value;
     registers[r] = value;
@@ -116,8 +116,20 @@ pub fn load<'a>(
     }
 }
 
-// An object stored again keeps its place and takes the new value.
+// Whether the object may take this value: a value at a bound is allowed. No branch: a value may lie outside at either end.
+fn allows(table: &[i64], o: usize, v: i64) -> bool
+    requires { ⌜ o < object-count (now table) ⌝ }
+    ensures { λ b. ⌜ b ≡ table-of (now (table .entry)) .allow o v ⌝ }
+{
+    let at = o * execution::ROW;
+    let lower = table[at + execution::LOWER];
+    let upper = table[at + execution::UPPER];
+    (lower <= v) & (v <= upper)
+}
+
+// A value outside the object's bounds stops the run. An object stored again keeps its place and takes the new value.
 pub fn store(
+    table: &[i64],
     registers: &[i64; 4],
     wo: &mut [usize; 16],
     wv: &mut [i64; 16],
@@ -125,16 +137,21 @@ pub fn store(
     r: usize,
     o: usize,
 ) -> Counts
-    requires { ⌜ Bounded c × (c .counter < capacity) × (r < 4) × Room (now wo) (now wv) ⌝ }
-    ensures run { λ t. ⌜ ((T : Table) (ro : List ℕ) (rv : List ℤ) → run-of-arrays t (now (registers .entry)) ro rv (now (wo .exit)) (now (wv .exit))
-        ≡ apply T (put-move o (register (now (registers .entry)) r)) (run-of-arrays c (now (registers .entry)) ro rv (now (wo .entry)) (now (wv .entry)))) ⌝ }
+    requires { ⌜ Bounded c × (c .counter < capacity) × (r < 4) × (o < object-count (now table)) × Room (now wo) (now wv) ⌝ }
+    ensures run { λ t. ⌜ ((ro : List ℕ) (rv : List ℤ) → run-of-arrays t (now (registers .entry)) ro rv (now (wo .exit)) (now (wv .exit))
+        ≡ apply (table-of (now (table .entry))) (put-move o (register (now (registers .entry)) r))
+        (run-of-arrays c (now (registers .entry)) ro rv (now (wo .entry)) (now (wv .entry)))) ⌝ }
     ensures bounded { λ t. ⌜ Bounded t ⌝ }
     ensures room { λ _. ⌜ Room (now (wo .exit)) (now (wv .exit)) ⌝ }
 {
+    let v = registers[r];
+    if !allows(table, o, v) {
+        return stop(c, 3);
+    }
     let n = c.writes;
     let j = find(wo, n, o);
     wo[j] = o;
-    wv[j] = registers[r];
+    wv[j] = v;
     if j < n {
         return advance(c, 0);
     }

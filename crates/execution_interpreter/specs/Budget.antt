@@ -1,7 +1,7 @@
 -- The budgeted run, as the loop of `execute` goes: what holds before and after each operation. Assumes nothing.
 use Prim.Native.Nat.{ℕ, zero, suc, _+_, _-_, _≤_, _<_}
 use mathlib.Core.Path.{_≡_, refl, sym, ap, _∙_}
-use mathlib.Core.Bool.{true}
+use mathlib.Core.Bool.{Bool, true, false, cond}
 use mathlib.Core.Option.{some}
 use mathlib.Core.List.{List}
 use native.Mathlib.Omega.{arith}
@@ -13,7 +13,7 @@ use Rattle.operation.specs.BodyLaws.{Valid, length-operations, head-operations}
 use Rattle.operation.specs.declared.Operation.{Operation}
 use Rattle.operation.specs.declared.Operation.the-variants.{Load, Store, Set, Add, Subtract, Skip, Fail, Divide}
 use Rattle.execution.specs.declared.Counts.{Counts}
-use Rattle.execution.specs.Run.{Table, Move, get, put, go, halt, move, Run, start, apply, due, is-none, ended, obey, step, steps, whole, counted}
+use Rattle.execution.specs.Run.{Table, outside, Move, get, put, go, halt, move, Run, start, put-in, stopped, apply, due, is-none, ended, obey, step, steps, whole, counted}
 use Rattle.execution.specs.ReadAgreement.{stay, steps-step, ended-past, enough}
 use Rattle.execution.specs.RunShape.{stop-least}
 use Rattle.execution.specs.Arrays.{capacity, run-of-arrays, Lent}
@@ -79,12 +79,16 @@ run-whole T b t g ro rv wo wv h e =
     let f = e ∙ enough T b capacity h in
     ap (λ (p : Run). run-of-arrays t (p .registers) ro rv wo wv) (sym f) ∙ f
 
-pub apply-outcome : (T : Table) (m : Move) (p q : Run) → q ≡ apply T m p → q .outcome ≤ 2
+pub apply-outcome : (T : Table) (m : Move) (p q : Run) → q ≡ apply T m p → q .outcome ≤ 3
 apply-outcome T m p q e = rw e (by m)
   where
-    by : (m : Move) → apply T m p .outcome ≤ 2
+    put-by : (o : ℕ) (v : ℤ) (t : Bool) → cond t (put-in o v p) (stopped outside p) .outcome ≤ 3
+    put-by o v true = omega arith
+    put-by o v false = omega arith
+
+    by : (m : Move) → apply T m p .outcome ≤ 3
     by (get r o) = omega arith
-    by (put o v) = omega arith
+    by (put o v) = put-by o v (T .allow o v)
     by (go g k) = omega arith
     by (halt s) = stop-least s
 

@@ -33,10 +33,10 @@ copies objs rs = map (Option·map (λ r. map (as-of r) objs)) rs
 
 unfoldable pub serial-of : Replica → Serial
 serial-of u =
-    record { timestamp = u .timestamp; objects = map newest (u .objects); lasts = u .lasts; pending = sents (u .pending); readers = copies (u .objects) (u .readers) }
+    record { timestamp = u .timestamp; objects = map newest (u .objects); lasts = u .lasts; pending = sents (u .pending); readers = copies (u .objects) (u .readers); bounds = u .bounds }
 
-serial-≡ : (p q : Serial) → p .timestamp ≡ q .timestamp → p .objects ≡ q .objects → p .lasts ≡ q .lasts → p .pending ≡ q .pending → p .readers ≡ q .readers → p ≡ q
-serial-≡ p q a b c d e = λ i. record { timestamp = a i; objects = b i; lasts = c i; pending = d i; readers = e i }
+serial-≡ : (p q : Serial) → p .timestamp ≡ q .timestamp → p .objects ≡ q .objects → p .lasts ≡ q .lasts → p .pending ≡ q .pending → p .readers ≡ q .readers → p .bounds ≡ q .bounds → p ≡ q
+serial-≡ p q a b c d e f = λ i. record { timestamp = a i; objects = b i; lasts = c i; pending = d i; readers = e i; bounds = f i }
 
 -- refusals see the same
 pub facts-same : (u : Replica) → serial.facts (serial-of u) ≡ facts u
@@ -74,7 +74,7 @@ module _ (l : Limits) where
   pub opened-same : (s : Start) → serial-of (opened l s) ≡ serial.opened l s
   unfolding serial-of opened serial.opened
   opened-same s =
-      serial-≡ _ _ refl (map-map newest (λ v. v ∷ []) (s .versions) ∙ map-id (s .versions)) refl refl (map-replicate _ (l .readers) none)
+      serial-≡ _ _ refl (map-map newest (λ v. v ∷ []) (s .versions) ∙ map-id (s .versions)) refl refl (map-replicate _ (l .readers) none) refl
 
   -- what one call answers, and the state after it
   abbrev Agrees : Answer × Replica → Answer × Serial → Type 0
@@ -87,10 +87,10 @@ module _ (l : Limits) where
   module _ (u : Replica) (v : Invariant l u) where
     -- ---- a final delivery
 
-    keyed-somewhere : (c s : ℕ) → Somewhere (keyed u c s)
+    keyed-somewhere : (c s : ℕ) → Somewhere (committed-table u) (keyed u c s)
     unfolding steps
     keyed-somewhere c s =
-        picked-all Somewhere (has-key c s) (u .pending) (committed-table u, (0, refl)) (chain-somewhere (committed-table u) (u .pending) (v .early))
+        picked-all (Somewhere (committed-table u)) (has-key c s) (u .pending) (committed-table u, refl, (0, refl)) (chain-somewhere (committed-table u) (committed-table u) refl (u .pending) (v .early))
 
     keyed-valid : (c s : ℕ) → AllValid (length (u .objects)) (program (keyed u c s))
     unfolding operations listed
@@ -106,14 +106,14 @@ module _ (l : Limits) where
         (let h = all-at (Until (u .timestamp)) (u .objects) [] (v .versions) (omega arith) i in omega arith)
 
     -- validated or run again, its result is what the serial table's run gives
-    result-same : (c s : ℕ) → SameRun (suc (u .timestamp)) (map newest (u .objects)) (result (committed-table u) (keyed u c s)) (ran (suc (u .timestamp)) (keyed u c s .sent .bytes) (map newest (u .objects)))
+    result-same : (c s : ℕ) → SameRun (suc (u .timestamp)) (map newest (u .objects)) (result (committed-table u) (keyed u c s)) (ran (suc (u .timestamp)) (u .bounds) (keyed u c s .sent .bytes) (map newest (u .objects)))
     result-same c s =
-        rw (result-whole (committed-table u) (keyed u c s) (keyed-somewhere c s), ← (table-values (u .objects)))
-        (serial-run (suc (u .timestamp)) (map newest (u .objects)) before (keyed u c s .sent .bytes) (rw (length-map (u .objects) newest) (keyed-valid c s)))
+        rw (result-whole (committed-table u) (keyed u c s) (keyed-somewhere c s), ← (table-values (u .objects) (u .bounds)))
+        (serial-run (suc (u .timestamp)) (u .bounds) (map newest (u .objects)) before (keyed u c s .sent .bytes) (rw (length-map (u .objects) newest) (keyed-valid c s)))
 
     final-same : (c s : ℕ) → Performs (perform l u (update (final c s))) (serial.perform l (serial-of u) (update (final c s)))
     unfolding perform commit serial-of serial.perform serial.commit
-    final-same c s = rw (picked-bytes (is-key c s) (u .pending)) (answer, serial-≡ _ _ refl objects refl pending readers)
+    final-same c s = rw (picked-bytes (is-key c s) (u .pending)) (answer, serial-≡ _ _ refl objects refl pending readers refl)
       where
         t : ℕ
         t = suc (u .timestamp)
@@ -125,7 +125,7 @@ module _ (l : Limits) where
         p = result (committed-table u) (keyed u c s)
 
         r : ℕ × List Version
-        r = ran t (keyed u c s .sent .bytes) (map newest (u .objects))
+        r = ran t (u .bounds) (keyed u c s .sent .bytes) (map newest (u .objects))
 
         g : SameRun t (map newest (u .objects)) p r
         g = result-same c s
@@ -142,8 +142,8 @@ module _ (l : Limits) where
         objects : map newest objs ≡ r .1
         objects = newest-install t rs (p .writes) (u .objects) ∙ sym (g .objects)
 
-        pending : sents (walk (table objs) left) ≡ keep (λ j. not (leaves c s j)) (sents (u .pending))
-        pending = walk-sents (table objs) left ∙ map-keep (λ (j : Pending). j .sent) (λ j. not (leaves c s j)) (u .pending)
+        pending : sents (walk (table objs (u .bounds)) left) ≡ keep (λ j. not (leaves c s j)) (sents (u .pending))
+        pending = walk-sents (table objs (u .bounds)) left ∙ map-keep (λ (j : Pending). j .sent) (λ j. not (leaves c s j)) (u .pending)
 
         readers : copies objs (u .readers) ≡ copies (u .objects) (u .readers)
         readers =
@@ -185,13 +185,13 @@ module _ (l : Limits) where
     unfolding perform serial-of serial.perform
     perform-same (opening o) = (refl, opened-same (start-of o))
     perform-same (update (optimistic c s b)) =
-        (refl, serial-≡ _ _ refl refl refl (map-append (λ (j : Pending). j .sent) (u .pending) _) refl)
-    perform-same (update (execute k)) = (refl, serial-≡ _ _ refl refl refl (worked-sents (committed-table u) k (u .pending)) refl)
+        (refl, serial-≡ _ _ refl refl refl (map-append (λ (j : Pending). j .sent) (u .pending) _) refl refl)
+    perform-same (update (execute k)) = (refl, serial-≡ _ _ refl refl refl (worked-sents (committed-table u) k (u .pending)) refl refl)
     perform-same (update (final c s)) = final-same c s
-    perform-same (update (open-reader r)) = (refl, serial-≡ _ _ refl refl refl refl (open-reader-same r))
+    perform-same (update (open-reader r)) = (refl, serial-≡ _ _ refl refl refl refl (open-reader-same r) refl)
     perform-same (update (close-reader r)) =
         let rs = opens (set (u .readers) r none) in
-        (refl, serial-≡ _ _ refl (map-map-same newest (prune rs) (u .objects) (newest-prune rs)) refl refl (close-reader-same r))
+        (refl, serial-≡ _ _ refl (map-map-same newest (prune rs) (u .objects) (newest-prune rs)) refl refl (close-reader-same r) refl)
     perform-same (query q) = (ap observed (reply-same q), refl)
 
     -- one call

@@ -69,17 +69,17 @@ chain-append S (i ∷ js) j h e = (h .0, chain-append _ js j (h .1) e)
 
 -- ---- a commit's walk
 
--- reached on some table
-abbrev pub Somewhere : Pending → Type 0
-Somewhere j = (S : Table) × Reached S j
+-- reached on some table of the same bounds as S
+abbrev pub Somewhere : Table → Pending → Type 0
+Somewhere S j = (R : Table) × (S .allow ≡ R .allow) × Reached R j
 
-pub chain-somewhere : (S : Table) (js : List Pending) → Chain S js → All Somewhere js
-chain-somewhere S [] h = tt
-chain-somewhere S (j ∷ js) h = ((S, h .0), chain-somewhere _ js (h .1))
+pub chain-somewhere : (S R : Table) → S .allow ≡ R .allow → (js : List Pending) → Chain R js → All (Somewhere S) js
+chain-somewhere S R b [] h = tt
+chain-somewhere S R b (j ∷ js) h = ((R, b, h .0), chain-somewhere S (over (j .run .writes) R) b js (h .1))
 
--- what was reached on some table, and read what S has, is reached on S
-reached-again : (S : Table) (j : Pending) → Somewhere j → matches S (j .run .reads) ≡ true → Reached S j
-reached-again S j (R, (k, e)) m = (k, e ∙ sym (steps-agree S R (program j) k start (rw e at m)))
+-- what was reached on such a table, and read what S has, is reached on S
+reached-again : (S : Table) (j : Pending) → Somewhere S j → matches S (j .run .reads) ≡ true → Reached S j
+reached-again S j (R, b, (k, e)) m = (k, e ∙ sym (steps-agree S R b (program j) k start (rw e at m)))
 
 not-begun-walk : (S : Table) (js : List Pending) → NotBegun js → NotBegun (walk S js)
 unfolding walk start
@@ -99,7 +99,7 @@ walk-ordered S (j ∷ js) s =
     go′ true e (inr f) k = rw e (inr (not-begun-walk (over (j .run .writes) S) js f), k)
     go′ false e d k = rw e (not-begun-ordered (map restarted (j ∷ js)) (not-begun-restarted (j ∷ js)))
 
-pub walk-chain : (S : Table) (js : List Pending) → All Somewhere js → Chain S (walk S js)
+pub walk-chain : (S : Table) (js : List Pending) → All (Somewhere S) js → Chain S (walk S js)
 unfolding walk
 walk-chain S [] h = tt
 walk-chain S (j ∷ js) h = go′ (matches S (j .run .reads)) refl (walk-chain (over (j .run .writes) S) js (h .1))
@@ -203,7 +203,7 @@ walk-sents S (j ∷ js) = go′ (matches S (j .run .reads)) (walk-sents (over (j
 -- ---- validation
 
 -- "its early outcome and stores are kept; else it is run whole": either way the result is the whole run on the committed table
-pub result-whole : (S : Table) (j : Pending) → Somewhere j → result S j ≡ whole S (program j)
+pub result-whole : (S : Table) (j : Pending) → Somewhere S j → result S j ≡ whole S (program j)
 unfolding result validated
 result-whole S j h = go′ (validated S j) refl
   where

@@ -8,7 +8,7 @@ use lib.IntN.{ℤ}
 
 -- what a replica is opened with
 pub data Opening : Type 0 where
-  by-values : ℕ → List ℤ → ℕ → Opening  -- n, start values, start timestamp
+  by-values : ℕ → List ℤ → List ℤ → List ℤ → ℕ → Opening  -- n, start values, lower bounds, upper bounds, start timestamp
 
 -- a call that may change the replica
 pub data Update : Type 0 where

@@ -10,6 +10,7 @@ use lib.Dec.{eqb}
 use lib.ListN.{length, set, replicate, length-map, length-set, length-replicate}
 use borrow.Author.Tests.{not-false}
 use Rattle.operation.specs.Body.{is-well-formed}
+use Rattle.execution.specs.Run.{Table}
 use Rattle.execution.specs.Entries.{Entry}
 use Rattle.model.specs.declared.Limits.{Limits}
 use Rattle.model.specs.Lists.{keep, any}
@@ -65,9 +66,9 @@ module _ (l : Limits) where
           versions = until-install (u .timestamp) t rs writes (u .objects) le (v .versions);
           seats = v .seats;
           readers = λ r h. (let k = v .readers r h in omega arith);
-          early = walk-chain (table objs) left (all-keep Somewhere q (u .pending) (chain-somewhere (committed-table u) (u .pending) (v .early)));
-          ordered = walk-ordered (table objs) left (ordered-keep q (u .pending) (v .ordered));
-          bodies = rw (walk-sents (table objs) left, length-install t rs writes (u .objects)) (all-mapped formed (λ (j : Pending). j .sent) left stay);
+          early = walk-chain T left (all-keep (Somewhere T) q (u .pending) (chain-somewhere T (committed-table u) refl (u .pending) (v .early)));
+          ordered = walk-ordered T left (ordered-keep q (u .pending) (v .ordered));
+          bodies = rw (walk-sents T left, length-install t rs writes (u .objects)) (all-mapped formed (λ (j : Pending). j .sent) left stay);
         }
       where
         rs : List ℕ
@@ -75,6 +76,9 @@ module _ (l : Limits) where
 
         objs : List (List Version)
         objs = install t rs writes (u .objects)
+
+        T : Table
+        T = table objs (u .bounds)
 
         left : List Pending
         left = keep q (u .pending)
@@ -126,7 +130,7 @@ module _ (l : Limits) where
           versions = until-prune rs (u .timestamp) (u .objects) (v .versions);
           seats = length-set (u .readers) r _ ∙ v .seats;
           readers = λ x h. go′ x (opens-set (u .readers) r none x h);
-          early = rw (table-prune rs (u .objects)) (v .early);
+          early = rw (table-prune rs (u .objects) (u .bounds)) (v .early);
           ordered = v .ordered;
           bodies = rw (length-map (u .objects) (prune rs)) (v .bodies);
         }

@@ -25,6 +25,7 @@ pub mod Shape
 pub mod ShapeRuns
 pub mod Held
 pub mod ShapeCheck
+pub mod ShapeBounds
 pub mod ShapeParts
 pub mod ShapeKept
 pub mod Computing

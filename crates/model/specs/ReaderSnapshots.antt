@@ -143,7 +143,7 @@ module _ (l : Limits) (r : ℕ) where
       let copy = map newest (u .objects) in
       let h = calls-open copy cs (call l u (update (open-reader r)) .1) w (open-reader-opens u v e) q in
       read-open copy (calls l (call l u (update (open-reader r)) .1) cs .1) (calls-invariant l cs (call l u (update (open-reader r)) .1) w) h o (rw (length-map (u .objects) newest) k)
-      ∙ ap (λ (S : Table). value (S .look o)) (table-values (u .objects))
+      ∙ ap (λ (S : Table). value (S .look o)) (table-values (u .objects) (u .bounds))
 
 -- the same for a list that starts with an opening: `before` the reader is opened and `after`
 pub reader-snapshot : (l : Limits) (s : Start) → Dated s → (before after : List Call) (r o : ℕ)

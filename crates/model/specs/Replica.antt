@@ -10,12 +10,13 @@ use lib.ListN.{length, getD, set, replicate}
 use Rattle.operation.specs.Body.{operations}
 use Rattle.operation.specs.declared.Operation.{Operation}
 use Rattle.execution.specs.Entries.{Entry, lookup}
+use Rattle.execution.specs.Bounds.{Bounds, no-bounds, inside}
 use Rattle.execution.specs.Run.{Table, Run, start, ended, steps, whole, counted, matches, over}
 use Rattle.model.specs.declared.Limits.{Limits}
 use Rattle.model.specs.Lists.{pick, keep, any, count, index, mapi}
 use Rattle.model.specs.Interface.{optimistic, execute, final, open-reader, close-reader, Query, read, find, show-body, Call, opening, update, query, Observation, value, found, body, Yield, done, executed, committed, observed, Answer}
 use Rattle.model.specs.Calls.{Transaction, is-key, leaves, Facts, refusal, shown, judged}
-use Rattle.model.specs.Start.{Version, no-version, Start, start-of}
+use Rattle.model.specs.Start.{Version, no-version, Start, start-of, Object, objects-from}
 use Rattle.model.specs.Serial.{is-some}
 
 -- a pending transaction with its run on record ("early results")
@@ -29,28 +30,29 @@ pub record Replica : Type 0 where
   pub lasts : List ℕ  -- each client's last committed sequence number
   pub pending : List Pending  -- in optimistic order
   pub readers : List (Option ℕ)  -- an open reader's timestamp
+  pub bounds : List Bounds  -- each object's; they stay from one opening to the next
 
 -- ---- one field changed
 
 abbrev pub with-timestamp : ℕ → Replica → Replica
 with-timestamp x u =
-    record { timestamp = x; objects = u .objects; lasts = u .lasts; pending = u .pending; readers = u .readers }
+    record { timestamp = x; objects = u .objects; lasts = u .lasts; pending = u .pending; readers = u .readers; bounds = u .bounds }
 
 abbrev pub with-objects : List (List Version) → Replica → Replica
 with-objects x u =
-    record { timestamp = u .timestamp; objects = x; lasts = u .lasts; pending = u .pending; readers = u .readers }
+    record { timestamp = u .timestamp; objects = x; lasts = u .lasts; pending = u .pending; readers = u .readers; bounds = u .bounds }
 
 abbrev pub with-lasts : List ℕ → Replica → Replica
 with-lasts x u =
-    record { timestamp = u .timestamp; objects = u .objects; lasts = x; pending = u .pending; readers = u .readers }
+    record { timestamp = u .timestamp; objects = u .objects; lasts = x; pending = u .pending; readers = u .readers; bounds = u .bounds }
 
 abbrev pub with-pending : List Pending → Replica → Replica
 with-pending x u =
-    record { timestamp = u .timestamp; objects = u .objects; lasts = u .lasts; pending = x; readers = u .readers }
+    record { timestamp = u .timestamp; objects = u .objects; lasts = u .lasts; pending = x; readers = u .readers; bounds = u .bounds }
 
 abbrev pub with-readers : List (Option ℕ) → Replica → Replica
 with-readers x u =
-    record { timestamp = u .timestamp; objects = u .objects; lasts = u .lasts; pending = u .pending; readers = x }
+    record { timestamp = u .timestamp; objects = u .objects; lasts = u .lasts; pending = u .pending; readers = x; bounds = u .bounds }
 
 -- ---- versions
 
@@ -79,13 +81,17 @@ held rs vs v = eqb (v .stamp) (newest vs .stamp) || any (λ r. eqb (v .stamp) (a
 unfoldable pub prune : List ℕ → List Version → List Version
 prune rs vs = keep (held rs vs) vs
 
--- the newest values
-abbrev pub table : List (List Version) → Table
-table objs = record { look = λ o. newest (getD objs o []) .value }
+-- the newest values, and the bounds
+abbrev pub table : List (List Version) → List Bounds → Table
+table objs bs = record { look = λ o. newest (getD objs o []) .value; allow = λ o. inside (getD bs o no-bounds) }
 
 -- the committed state ("committed table"): what the first pending transaction runs on
 abbrev pub committed-table : Replica → Table
-committed-table u = table (u .objects)
+committed-table u = table (u .objects) (u .bounds)
+
+-- the same as a list, with all that an object's record has
+abbrev pub committed-objects : Replica → List Object
+committed-objects u = objects-from (map newest (u .objects)) (u .bounds)
 
 -- one object's versions after a commit that stored this value, or none
 abbrev pub pushed : ℕ → List Version → Option ℤ → List Version
@@ -175,7 +181,7 @@ module _ (l : Limits) where
   -- an accepted opening: nothing pending, readers closed
   unfoldable pub opened : Start → Replica
   opened s =
-      record { timestamp = s .timestamp; objects = map (λ v. v ∷ []) (s .versions); lasts = s .lasts; pending = []; readers = replicate (l .readers) none }
+      record { timestamp = s .timestamp; objects = map (λ v. v ∷ []) (s .versions); lasts = s .lasts; pending = []; readers = replicate (l .readers) none; bounds = s .bounds }
 
   -- what a query yields
   abbrev pub reply : Replica → Query → Observation

@@ -11,13 +11,14 @@ use lib.ListN.{length}
 use Rattle.arith.specs.Integer.{fits, eq-z}
 use Rattle.operation.specs.Body.{register-count, size, is-well-formed}
 use Rattle.execution.specs.Entries.{Entry}
+use Rattle.execution.specs.Bounds.{Bounds, ordered, inside}
 use Rattle.execution.specs.Run.{Run}
-use Rattle.execution.specs.RunShape.{distinct, every, all-fit}
+use Rattle.execution.specs.RunShape.{distinct, every, all-fit, AllInside}
 use Rattle.model.specs.declared.Limits.{Limits}
-use Rattle.model.specs.Lists.{any, all}
+use Rattle.model.specs.Lists.{any, all, all₂}
 use Rattle.model.specs.Calls.{Transaction, is-key, spent, clients, last-timestamp}
 use Rattle.model.specs.Serial.{Version}
-use Rattle.model.specs.Replica.{Pending, Replica, opens, held}
+use Rattle.model.specs.Replica.{Pending, Replica, opens, held, committed-table}
 use Rattle.model.specs.ListLaws.{All}
 use Rattle.model.specs.EarlyResults.{sents}
 
@@ -35,6 +36,10 @@ pub record VersionsShape (t : ℕ) (rs : List ℕ) (vs : List Version) : Type 0 
   pub each : all (held rs vs) vs ≡ true  -- "each one held by the rule above"
   pub served : (r : ℕ) → any (eqb r) rs ≡ true → any (λ v. leb (v .stamp) r) vs ≡ true  -- "and one for every open reader"
 
+-- every version of an object inside its bounds
+abbrev pub versions-inside : Bounds → List Version → Bool
+versions-inside b vs = all (λ (v : Version). inside b (v .value)) vs
+
 -- ---- pending keys
 
 abbrev pub distinct-keys : List Transaction → Bool
@@ -48,9 +53,10 @@ pub record Unspent (lasts : List ℕ) (s : Transaction) : Type 0 where
 
 -- ---- one transaction's run, where n is the number of objects and m the number of the body's operations
 
--- "finished jobs .. with outcome 0 to 2 and place 1 to m (exactly m with outcome 0; no stores with 1 or 2)"
+-- "finished jobs .. with outcome 0 to 2 and place 1 to m (exactly m with outcome 0; no stores with 1 or 2)"; S-1 of document 02 "lets outcome 3
+-- stand, without stores"
 pub record Finished (m : ℕ) (p : Run) : Type 0 where
-  pub outcome : p .outcome ≤ 2
+  pub outcome : p .outcome ≤ 3
   pub least : 1 ≤ p .counter
   pub most : p .counter ≤ m
   pub exactly : p .outcome ≡ 0 → p .counter ≡ m
@@ -99,6 +105,9 @@ pub record RunEncoded (p : Run) : Type 0 where
   pub reads : every (λ x. fits (x .value)) (p .reads) ≡ true
   pub writes : every (λ x. fits (x .value)) (p .writes) ≡ true
 
+abbrev pub bounds-fit : Bounds → Bool
+bounds-fit b = fits (b .lower) && fits (b .upper)
+
 pub record Encoded (l : Limits) (u : Replica) : Type 0 where
   pub timestamp : u .timestamp ≤ last-timestamp
   pub lasts : all (λ s. ltb s (2 ^ 32)) (u .lasts) ≡ true
@@ -106,6 +115,7 @@ pub record Encoded (l : Limits) (u : Replica) : Type 0 where
   pub last-count : length (u .lasts) ≡ clients
   pub reader-count : length (u .readers) ≡ l .readers
   pub values : All (λ vs. all (λ (v : Version). fits (v .value)) vs ≡ true) (u .objects)
+  pub bounds : all bounds-fit (u .bounds) ≡ true
   pub runs : All (λ (j : Pending). RunEncoded (j .run)) (u .pending)
 
 -- ---- the whole
@@ -118,6 +128,12 @@ pub record Shape (l : Limits) (u : Replica) : Type 0 where
   -- "1 to 8 versions an object": one more than there are readers
   pub few-versions : All (λ (vs : List Version). length vs ≤ suc (l .readers)) (u .objects)
   pub versions : All (VersionsShape (u .timestamp) (opens (u .readers))) (u .objects)
+  -- S-1: each object has its bounds, "each lower limit not above its upper", "every version .. inside",
+  pub bound-count : length (u .bounds) ≡ length (u .objects)
+  pub ordered : all ordered (u .bounds) ≡ true
+  pub inside : all₂ versions-inside (u .bounds) (u .objects) ≡ true
+  -- "and recorded store"
+  pub stores : All (λ (j : Pending). AllInside (committed-table u .allow) (j .run .writes)) (u .pending)
   -- "reader stamps not above the unit's"
   pub readers : (r : ℕ) → any (eqb r) (opens (u .readers)) ≡ true → r ≤ u .timestamp
   -- "pending keys distinct and unspent"

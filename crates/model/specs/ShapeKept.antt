@@ -1,5 +1,5 @@
 -- Every call keeps the shape, from any replica that has it, forged early results included; an accepted opening gives it. Assumes nothing.
-use mathlib.Core.Path.{_≡_, refl, _∙_}
+use mathlib.Core.Path.{_≡_, refl, sym, ap, _∙_}
 use mathlib.Core.Logic.{_⊎_, inl, inr}
 use mathlib.Core.Bool.{Bool, true, false, not, _||_, false≢true, true≢false}
 use mathlib.Core.Option.{none, some}
@@ -15,11 +15,11 @@ use Rattle.operation.specs.Body.{size, operations, is-well-formed}
 use Rattle.execution.specs.Entries.{Entry}
 use Rattle.execution.specs.Run.{Table, start}
 use Rattle.execution.specs.ReadAgreement.{both}
-use Rattle.execution.specs.RunShape.{Entries, Shaped, start-shaped}
+use Rattle.execution.specs.RunShape.{Entries, Shaped, start-shaped, AllInside}
 use Rattle.model.specs.declared.Limits.{Limits}
-use Rattle.model.specs.Lists.{keep, any, all}
+use Rattle.model.specs.Lists.{keep, any, all, all₂}
 use Rattle.model.specs.Interface.{Opening, by-values, optimistic, execute, final, open-reader, close-reader, Call, opening, update, query}
-use Rattle.model.specs.Calls.{Transaction, Facts, is-key, leaves, causes, refusal, judged, clients, last-timestamp}
+use Rattle.model.specs.Calls.{Transaction, Facts, bounds-from, starts-inside, is-key, leaves, causes, refusal, judged, clients, last-timestamp}
 use Rattle.model.specs.Start.{Version, Start, start-of}
 use Rattle.model.specs.Replica.{Pending, Replica, opens, held, prune, install, table, committed-table, program, worked, walk, keyed, stays, result, facts, commit, opened, perform, call, calls}
 use Rattle.model.specs.ListLaws.{All, all-mapped, all-keep, all-append, all-map, all-implies, map-keep, all-keep-with, all-both, length-keep}
@@ -27,15 +27,16 @@ use Rattle.model.specs.VersionLaws.{length-install, Dated, opening-dated
 use Rattle.model.specs.EarlyResults.{ordered-keep, ordered-append, walk-ordered, worked-ordered, sents, worked-sents, walk-sents}
 use Rattle.model.specs.Refusals.{accepted}
 use Rattle.model.specs.Tests.{neither, all-after-set}
-use Rattle.model.specs.Shape.{VersionsShape, Shape}
+use Rattle.model.specs.Shape.{VersionsShape, bounds-fit, Shape}
 use Rattle.model.specs.ShapeCheck.{shaped, shaped-says}
-use Rattle.model.specs.ShapeParts.{Fit, Formed, Key, AllFormed, Objects, Queue, objects-part, pending-part, together, same-length, distinct-keep, distinct-append, still-unspent}
+use Rattle.model.specs.ShapeBounds.{BoundsPart, with-stores, pruned-inside, installed-inside, starts-ordered, starts-versions, none-inside, worked-inside, walk-inside, result-inside}
+use Rattle.model.specs.ShapeParts.{Fit, Formed, Key, AllFormed, Objects, Queue, Bounded, objects-part, pending-part, bounds-part, together, same-length, distinct-keep, distinct-append, still-unspent}
 use Rattle.model.specs.ShapeParts.{pending-sequence, table-fits, prune-fits, install-fits, install-versions, worked-shaped, walk-shaped, result-shaped, pick-found, opens-still, opened-who, closed-who}
 use Rattle.model.specs.Held.{close-shape, open-shape}
 
 -- what the types of the code's arguments give: values of 64 bits, timestamps and sequence numbers of 32
 abbrev pub Typed : Call → Type 0
-Typed (opening (by-values n vs t)) = (all fits vs ≡ true) × (t ≤ last-timestamp)
+Typed (opening (by-values n vs los his t)) = (all fits vs ≡ true) × (all fits los ≡ true) × (all fits his ≡ true) × (t ≤ last-timestamp)
 Typed (update (optimistic c s b)) = s < 2 ^ 32
 Typed (update (execute k)) = Unit {0}
 Typed (update (final c s)) = Unit {0}
@@ -53,6 +54,20 @@ all-same : (q : ℕ → Bool) (x : ℕ) → q x ≡ true → (k : ℕ) → all q
 all-same q x e zero = refl
 all-same q x e (suc k) = rw e (all-same q x e k)
 
+-- two lists of bounds side by side
+length-bounds : (los his : List ℤ) → length los ≡ length his → length (bounds-from los his) ≡ length los
+length-bounds [] his e = refl
+length-bounds (lo ∷ los) [] e = absurd (omega arith)
+length-bounds (lo ∷ los) (hi ∷ his) e = ap suc (length-bounds los his (omega arith))
+
+bounds-typed : (los his : List ℤ) → all fits los ≡ true → all fits his ≡ true → all bounds-fit (bounds-from los his) ≡ true
+bounds-typed [] his e f = refl
+bounds-typed (lo ∷ los) [] e f = refl
+bounds-typed (lo ∷ los) (hi ∷ his) e f =
+    let j = both (fits lo) (all fits los) e in
+    let k = both (fits hi) (all fits his) f in
+    rw (j .0, k .0) (bounds-typed los his (j .1) (k .1))
+
 -- what the shape asks of where an opening starts
 pub record StartShape (l : Limits) (s : Start) : Type 0 where
   pub some-object : 0 < length (s .versions)
@@ -62,6 +77,7 @@ pub record StartShape (l : Limits) (s : Start) : Type 0 where
   pub values : all (λ (v : Version). fits (v .value)) (s .versions) ≡ true
   pub last-count : length (s .lasts) ≡ clients
   pub lasts : all (λ q. ltb q (2 ^ 32)) (s .lasts) ≡ true
+  pub bounds : BoundsPart (map (λ v. v ∷ []) (s .versions)) (s .bounds) []
 
 module _ (l : Limits) where
   opened-shape : (s : Start) → StartShape l s → Shape l (opened l s)
@@ -78,6 +94,7 @@ module _ (l : Limits) where
         reader-count = length-replicate (l .readers) none;
       })
       (record { few-pending = omega arith; small = k .lasts; last-count = k .last-count; distinct = refl; keys = tt; ordered = tt; runs = tt })
+      (k .bounds)
     where
       first : (v : Version) → v .stamp ≤ s .timestamp → VersionsShape (s .timestamp) [] (v ∷ [])
       first v h =
@@ -90,27 +107,41 @@ module _ (l : Limits) where
   -- an accepted opening starts so
   opening-start : (f : Facts) (o : Opening) → Typed (opening o) → refusal l f (opening o) ≡ 0 → StartShape l (start-of o)
   unfolding causes
-  opening-start f (by-values n vs t) a e =
-      let k = neither (eqb n 0 || ltb (l .objects) n) (not (eqb (length vs) n)) (accepted l f (opening (by-values n vs t)) e .0) in
+  opening-start f (by-values n vs los his t) a e =
+      let causes-none = accepted l f (opening (by-values n vs los his t)) e in
+      let i = neither (eqb n 0 || ltb (l .objects) n || not (eqb (length vs) n) || not (eqb (length los) n)) (not (eqb (length his) n)) (causes-none .0) in
+      let j = neither (eqb n 0 || ltb (l .objects) n || not (eqb (length vs) n)) (not (eqb (length los) n)) (i .0) in
+      let k = neither (eqb n 0 || ltb (l .objects) n) (not (eqb (length vs) n)) (j .0) in
       let h = neither (eqb n 0) (ltb (l .objects) n) (k .0) in
       let q = eqb-true (length vs) n (not-false (eqb (length vs) n) (k .1)) in
+      let lows = eqb-true (length los) n (not-false (eqb (length los) n) (j .1)) in
+      let highs = eqb-true (length his) n (not-false (eqb (length his) n) (i .1)) in
+      let inner = not-false (all₂ starts-inside (bounds-from los his) vs) (causes-none .1 .0) in
+      let bs = length-bounds los his (lows ∙ sym highs) in
       let m = ltb-false (l .objects) n (h .1) in
       let z = length-map {B = Version} vs (λ v. record { stamp = t; value = v }) in
       record {
         some-object = omega (arith, z, least n (h .0) q);
         few-objects = omega (arith, z);
-        timestamp = a .1;
-        dated = opening-dated l f (by-values n vs t) e;
+        timestamp = a .3;
+        dated = opening-dated l f (by-values n vs los his t) e;
         values = fit vs (a .0);
         last-count = length-replicate clients _;
         lasts = all-same (λ s. ltb s (2 ^ 32)) _ refl clients;
+        bounds = record {
+          count = omega (arith, z, bs, length-map {B = List Version} (start-of (by-values n vs los his t) .versions) (λ v. v ∷ []));
+          ordered = starts-ordered (bounds-from los his) vs (omega (arith, bs)) inner;
+          encoded = bounds-typed los his (a .1) (a .2);
+          inside = starts-versions t (bounds-from los his) vs inner;
+          stores = tt;
+        };
       }
     where
       least : (n : ℕ) → eqb n 0 ≡ false → length vs ≡ n → 0 < length vs
       least zero e q = absurd (true≢false e)
       least (suc n) e q = omega arith
 
-      fit : (vs : List ℤ) → all fits vs ≡ true → all (λ (v : Version). fits (v .value)) (start-of (by-values n vs t) .versions) ≡ true
+      fit : (vs : List ℤ) → all fits vs ≡ true → all (λ (v : Version). fits (v .value)) (start-of (by-values n vs los his t) .versions) ≡ true
       fit [] e = refl
       fit (v ∷ vs) e = let k = both (fits v) (all fits vs) e in rw (k .0, fit vs (k .1))
 
@@ -133,8 +164,11 @@ module _ (l : Limits) where
     q : Queue l u
     q = pending-part l u k
 
+    bounded : Bounded l u
+    bounded = bounds-part l u k
+
     fit : (x : ℕ) → fits (S .look x) ≡ true
-    fit = table-fits (u .objects) (k .encoded .values)
+    fit = table-fits (u .objects) (u .bounds) (k .encoded .values)
 
     bodies : AllFormed l n (u .pending)
     bodies = all-map (Formed l n) (λ (j : Pending). j .sent) (u .pending) (k .bodies)
@@ -152,6 +186,7 @@ module _ (l : Limits) where
           ordered = ordered-append (u .pending) j (q .ordered) refl;
           runs = all-append _ (u .pending) j (q .runs) (start-shaped n (program j));
         })
+        (with-stores _ _ _ _ bounded (all-append _ (u .pending) j (bounded .stores) (none-inside (S .allow))))
       where
         j : Pending
         j = record { sent = record { client = c; sequence = s; bytes = b }; run = start }
@@ -178,6 +213,7 @@ module _ (l : Limits) where
           ordered = worked-ordered S c (u .pending) (q .ordered);
           runs = worked-shaped l n S c (u .pending) fit bodies (q .runs);
         })
+        (with-stores _ _ _ _ bounded (worked-inside S c (u .pending) (bounded .stores)))
       where
         here : sents (worked S c (u .pending)) ≡ sents (u .pending)
         here = worked-sents S c (u .pending)
@@ -196,13 +232,20 @@ module _ (l : Limits) where
           reader-count = o .reader-count;
         })
         (record {
-          few-pending = (let h = q .few-pending in omega (arith, same-length (walk (table objs) left) left (walk-sents (table objs) left), length-keep (stays c s) (u .pending)));
+          few-pending = (let h = q .few-pending in omega (arith, same-length (walk T left) left (walk-sents T left), length-keep (stays c s) (u .pending)));
           small = all-after-set (λ x. ltb x (2 ^ 32)) (u .lasts) c s (lt-ltb s (2 ^ 32) (pending-sequence l n (u .lasts) c s (sents (u .pending)) (q .keys) key)) (q .small);
           last-count = length-set (u .lasts) c s ∙ q .last-count;
           distinct = rw here (distinct-keep (λ x. not (leaves c s x)) (sents (u .pending)) (q .distinct));
           keys = rw (here, size) (all-keep-with (Key l n (u .lasts)) (Key l n (set (u .lasts) c s)) (λ x. not (leaves c s x)) (sents (u .pending)) still (q .keys));
-          ordered = walk-ordered (table objs) left (ordered-keep (stays c s) (u .pending) (q .ordered));
-          runs = rw size (walk-shaped l n (table objs) left (all-keep _ (stays c s) (u .pending) (q .runs)));
+          ordered = walk-ordered T left (ordered-keep (stays c s) (u .pending) (q .ordered));
+          runs = rw size (walk-shaped l n T left (all-keep _ (stays c s) (u .pending) (q .runs)));
+        })
+        (record {
+          count = bounded .count ∙ sym size;
+          ordered = bounded .ordered;
+          encoded = bounded .encoded;
+          inside = installed-inside t rs writes (u .bounds) (u .objects) within (bounded .inside);
+          stores = walk-inside T left (all-keep _ (stays c s) (u .pending) (bounded .stores));
         })
       where
         a : All (λ x. x .0 ≡ false) (causes l (facts u) (update (final c s)))
@@ -235,11 +278,19 @@ module _ (l : Limits) where
         size : length objs ≡ n
         size = length-install t rs writes (u .objects)
 
+        T : Table
+        T = table objs (u .bounds)
+
+        within : AllInside (S .allow) writes
+        within =
+            pick-found (λ (j : Pending). AllInside (S .allow) (result S j .writes)) c s (u .pending)
+            (all-implies _ _ (λ (j : Pending) h. result-inside S j h) (u .pending) (bounded .stores)) key
+
         left : List Pending
         left = keep (stays c s) (u .pending)
 
-        here : sents (walk (table objs) left) ≡ keep (λ x. not (leaves c s x)) (sents (u .pending))
-        here = walk-sents (table objs) left ∙ map-keep (λ (j : Pending). j .sent) (λ x. not (leaves c s x)) (u .pending)
+        here : sents (walk T left) ≡ keep (λ x. not (leaves c s x)) (sents (u .pending))
+        here = walk-sents T left ∙ map-keep (λ (j : Pending). j .sent) (λ x. not (leaves c s x)) (u .pending)
 
         still : (x : Transaction) → not (leaves c s x) ≡ true → Key l n (u .lasts) x → Key l n (set (u .lasts) c s) x
         still x g h =
@@ -259,6 +310,7 @@ module _ (l : Limits) where
           reader-count = length-set (u .readers) r _ ∙ o .reader-count;
         })
         q
+        bounded
       where
         t : ℕ
         t = u .timestamp
@@ -290,6 +342,7 @@ module _ (l : Limits) where
           reader-count = length-set (u .readers) r none ∙ o .reader-count;
         })
         (rw size q)
+        (record { count = bounded .count ∙ sym size; ordered = bounded .ordered; encoded = bounded .encoded; inside = pruned-inside ts (u .bounds) (u .objects) (bounded .inside); stores = bounded .stores })
       where
         rs : List ℕ
         rs = opens (u .readers)

@@ -16,6 +16,7 @@ use Rattle.arith.specs.Integer.{fits}
 use Rattle.operation.specs.Body.{operations, is-well-formed}
 use Rattle.operation.specs.BodyLaws.{valid-drop}
 use Rattle.execution.specs.Entries.{Entry, lookup}
+use Rattle.execution.specs.Bounds.{Bounds}
 use Rattle.execution.specs.Run.{Table, Run, start, steps, whole, matches, over}
 use Rattle.execution.specs.ReadAgreement.{both}
 use Rattle.execution.specs.RunShape.{Entries, lookup-fits, Shaped, steps-shaped, start-shaped, over-fits}
@@ -29,6 +30,7 @@ use Rattle.model.specs.VersionLaws.{opens-set}
 use Rattle.model.specs.EarlyResults.{Ordered, sents}
 use Rattle.model.specs.Tests.{neither, all-keeps, any-keep, any-append}
 use Rattle.model.specs.Shape.{VersionsShape, distinct-keys, Unspent, Shape}
+use Rattle.model.specs.ShapeBounds.{BoundsPart}
 use Rattle.model.specs.ShapeRuns.{AllShaped, order-ordered, order-shaped, ordered-order, all-sets, all-encoded}
 use Rattle.model.specs.ShapeCheck.{bodies-non-empty}
 use Rattle.model.specs.Held.{commit-shape, few}
@@ -105,14 +107,25 @@ module _ (l : Limits) (u : Replica) where
         runs = order-shaped (length (u .objects)) (u .pending) (k .order) (k .sets) (k .encoded .runs);
       }
 
-  pub together : Objects → Queue → Shape l u
-  together o q =
+  abbrev pub Bounded : Type 0
+  Bounded = BoundsPart (u .objects) (u .bounds) (u .pending)
+
+  pub bounds-part : Shape l u → Bounded
+  bounds-part k =
+      record { count = k .bound-count; ordered = k .ordered; encoded = k .encoded .bounds; inside = k .inside; stores = k .stores }
+
+  pub together : Objects → Queue → Bounded → Shape l u
+  together o q b =
       record {
         some-object = o .some-object;
         few-objects = o .few-objects;
         few-pending = q .few-pending;
         few-versions = all-implies _ _ (λ vs v. omega (arith, few (u .timestamp) (opens (u .readers)) vs v, opens-few (u .readers), o .reader-count)) (u .objects) (o .versions);
         versions = o .versions;
+        bound-count = b .count;
+        ordered = b .ordered;
+        inside = b .inside;
+        stores = b .stores;
         readers = o .before;
         distinct = q .distinct;
         unspent = all-implies (Key l n (u .lasts)) _ (λ s h. h .unspent) ts (q .keys);
@@ -126,6 +139,7 @@ module _ (l : Limits) (u : Replica) where
           last-count = q .last-count;
           reader-count = o .reader-count;
           values = o .values;
+          bounds = b .encoded;
           runs = all-encoded n (u .pending) (q .runs);
         };
       }
@@ -191,10 +205,10 @@ unfolding fits
 newest-fits [] h = refl
 newest-fits (v ∷ vs) h = both (fits (v .value)) (all (λ v. fits (v .value)) vs) h .0
 
-pub table-fits : (objs : List (List Version)) → All Fit objs → (o : ℕ) → fits (table objs .look o) ≡ true
-table-fits [] h o = newest-fits [] refl
-table-fits (x ∷ objs) h zero = newest-fits x (h .0)
-table-fits (x ∷ objs) h (suc o) = table-fits objs (h .1) o
+pub table-fits : (objs : List (List Version)) (bs : List Bounds) → All Fit objs → (o : ℕ) → fits (table objs bs .look o) ≡ true
+table-fits [] bs h o = newest-fits [] refl
+table-fits (x ∷ objs) bs h zero = newest-fits x (h .0)
+table-fits (x ∷ objs) bs h (suc o) = table-fits objs bs (h .1) o
 
 pub prune-fits : (rs : List ℕ) (vs : List Version) → Fit vs → Fit (prune rs vs)
 unfolding prune

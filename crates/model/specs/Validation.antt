@@ -9,6 +9,7 @@ use lib.IntN.{ℤ}
 use lib.ListN.{length}
 use borrow.Author.Tests.{eq-eqb}
 use Rattle.operation.specs.declared.Operation.{Operation}
+use Rattle.execution.specs.ReadAgreement.{put-either}
 use Rattle.execution.specs.Run.{Table, Move, get, put, go, halt, move, Run, start, known, got, apply, due, obey, step, steps, matches, over}
 use Rattle.model.specs.declared.Limits.{Limits}
 use Rattle.model.specs.Calls.{final, committed, refusal}
@@ -26,7 +27,7 @@ module _ (S : Table) (b : List Operation) where
       go′ : (k : Option ℤ) → matches S (got S r o p k .reads) ≡ true
       go′ none = matches-append S (p .reads) o h
       go′ (some v) = h
-  apply-matches (put o v) p h = h
+  apply-matches (put o v) p h = put-either (λ (q : Run). matches S (q .reads) ≡ true) S o v p h h
   apply-matches (go g k) p h = h
   apply-matches (halt s) p h = h
 

@@ -11,6 +11,7 @@ use lib.Dec.{eqb, leb}
 use lib.ListN.{length, getD, set, List·getD-map}
 use borrow.Author.Tests.{eq-eqb, eqb-true, le-leb, lt-leb}
 use Rattle.execution.specs.Entries.{Entry, lookup}
+use Rattle.execution.specs.Bounds.{Bounds, no-bounds, inside}
 use Rattle.execution.specs.Run.{Table}
 use Rattle.model.specs.Lists.{pick, any, mapi}
 use Rattle.model.specs.declared.Limits.{Limits}
@@ -108,23 +109,26 @@ Dated s = All (λ (v : Version). v .stamp ≤ s .timestamp) (s .versions)
 
 -- every start that is accepted is so
 pub opening-dated : (l : Limits) (f : Facts) (o : Opening) → refusal l f (opening o) ≡ 0 → Dated (start-of o)
-opening-dated l f (by-values n vs t) e = go′ vs
+opening-dated l f (by-values n vs los his t) e = go′ vs
   where
-    go′ : (vs : List ℤ) → Dated (start-of (by-values n vs t))
+    go′ : (vs : List ℤ) → Dated (start-of (by-values n vs los his t))
     go′ [] = tt
     go′ (v ∷ vs) = (omega arith, go′ vs)
 
 -- ---- the committed state as a table
 
-abbrev pub values-of : List Version → Table
-values-of objs = record { look = λ o. getD objs o no-version .value }
+abbrev pub values-of : List Version → List Bounds → Table
+values-of objs bs = record { look = λ o. getD objs o no-version .value; allow = λ o. inside (getD bs o no-bounds) }
 
-pub table-values : (objs : List (List Version)) → values-of (map newest objs) ≡ table objs
-table-values objs i = record { look = λ o. List·getD-map newest objs o [] i .value }
+pub table-values : (objs : List (List Version)) (bs : List Bounds) → values-of (map newest objs) bs ≡ table objs bs
+table-values objs bs i =
+    record { look = λ o. List·getD-map newest objs o [] i .value; allow = λ o. inside (getD bs o no-bounds) }
 
-pub table-prune : (rs : List ℕ) (objs : List (List Version)) → table (map (prune rs) objs) ≡ table objs
-table-prune rs objs =
-    sym (table-values (map (prune rs) objs)) ∙ ap values-of (map-map-same newest (prune rs) objs (newest-prune rs)) ∙ table-values objs
+pub table-prune : (rs : List ℕ) (objs : List (List Version)) (bs : List Bounds) → table (map (prune rs) objs) bs ≡ table objs bs
+table-prune rs objs bs =
+    sym (table-values (map (prune rs) objs) bs)
+    ∙ ap (λ (vs : List Version). values-of vs bs) (map-map-same newest (prune rs) objs (newest-prune rs))
+    ∙ table-values objs bs
 
 -- ---- the open readers
 

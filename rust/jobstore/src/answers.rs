@@ -31,6 +31,8 @@ pub enum Outcome {
     Fail = 1,
     /// At an add or subtract that leaves 64 bits.
     Overflow = 2,
+    /// At a store of a value outside its object's [`Bounds`](crate::Bounds).
+    Outside = 3,
 }
 
 impl Outcome {
@@ -44,6 +46,7 @@ impl Outcome {
             0 => Outcome::Done,
             1 => Outcome::Fail,
             2 => Outcome::Overflow,
+            3 => Outcome::Outside,
             _ => unreachable!("the library answered outcome {number}"),
         }
     }

@@ -57,7 +57,8 @@ impl Body {
         self.operation(Kind::Load, register, object, 0)
     }
 
-    /// The object takes the register's value, if the job ends as [`Done`](crate::Outcome::Done).
+    /// The object takes the register's value, if the job ends as [`Done`](crate::Outcome::Done); a value outside the
+    /// object's [`Bounds`](crate::Bounds) ends the job.
     pub fn store(self, register: u8, object: u8) -> Body {
         self.operation(Kind::Store, register, object, 0)
     }

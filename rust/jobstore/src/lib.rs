@@ -32,12 +32,14 @@
 
 mod answers;
 mod body;
+mod bounds;
 pub mod raw;
 mod refusal;
 mod replica;
 
 pub use answers::{Committed, Executed, Found, Key, Outcome, Reading};
 pub use body::{Body, BODY_LENGTH};
+pub use bounds::Bounds;
 pub use refusal::Refusal;
 pub use replica::{Replica, BODIES_LENGTH, RECORD_LENGTH};
 

@@ -58,6 +58,10 @@ extern "C" {
         n: u32,
         values: *const i64,
         values_length: usize,
+        lower: *const i64,
+        lower_length: usize,
+        upper: *const i64,
+        upper_length: usize,
         stamp: u32,
     ) -> u32;
     pub fn jobstore_early(

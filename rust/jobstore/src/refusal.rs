@@ -13,7 +13,7 @@ use std::fmt;
 pub enum Refusal {
     /// An area of wrong length, or (except at opening) whose contents fail the shape check.
     Area = 1,
-    /// Opening: not 1 to 128 objects.
+    /// Opening: not 1 to 128 objects, or not one lower and one upper bound for each.
     Objects = 2,
     /// Client above 15.
     Client = 3,
@@ -39,6 +39,8 @@ pub enum Refusal {
     Object = 13,
     /// Work count above 4,096.
     Count = 14,
+    /// Opening: a lower bound above its upper, or a start value outside its bounds.
+    Bounds = 15,
 }
 
 impl Refusal {
@@ -58,6 +60,7 @@ impl Refusal {
         Refusal::ReaderClosed,
         Refusal::Object,
         Refusal::Count,
+        Refusal::Bounds,
     ];
 
     /// The papers' number.
@@ -85,7 +88,7 @@ impl Refusal {
     pub const fn message(self) -> &'static str {
         match self {
             Refusal::Area => "an area has the wrong length, or its contents fail the shape check",
-            Refusal::Objects => "the number of objects is not 1 to 128, or not that of the values",
+            Refusal::Objects => "the number of objects is not 1 to 128, or not that of the values or bounds",
             Refusal::Client => "the client is above 15",
             Refusal::Spent => "the key is spent: its sequence number is not above the client's last committed one",
             Refusal::Pending => "the key is pending already",
@@ -98,6 +101,7 @@ impl Refusal {
             Refusal::ReaderClosed => "the reader is not open",
             Refusal::Object => "the object's number is not below the number of objects",
             Refusal::Count => "the work count is above 4,096",
+            Refusal::Bounds => "a lower bound is above its upper, or a start value is outside its bounds",
         }
     }
 }

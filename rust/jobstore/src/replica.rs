@@ -1,12 +1,13 @@
 //! A replica in two areas, and its nine calls. The unsafe code of the package is here.
 
 use crate::answers::{Committed, Executed, Found, Key, Outcome, Reading};
+use crate::bounds::Bounds;
 use crate::raw;
 use crate::refusal::{judged, Refusal};
 use std::fmt;
 
 /// Bytes of the record area.
-pub const RECORD_LENGTH: usize = 28_112;
+pub const RECORD_LENGTH: usize = 30_160;
 
 /// Bytes of the body area.
 pub const BODIES_LENGTH: usize = 5_664;
@@ -53,8 +54,17 @@ impl Replica {
     ///
     /// [`Refusal::Objects`].
     pub fn opened(values: &[i64], stamp: u32) -> Result<Replica, Refusal> {
+        Replica::opened_with_bounds(values, Bounds::widest(values.len()), stamp)
+    }
+
+    /// The same with these bounds, as by [`open_with_bounds`](Replica::open_with_bounds).
+    ///
+    /// # Errors
+    ///
+    /// In this order: [`Refusal::Objects`], [`Refusal::Bounds`].
+    pub fn opened_with_bounds(values: &[i64], bounds: Bounds, stamp: u32) -> Result<Replica, Refusal> {
         let mut replica = Replica::new();
-        replica.open(values, stamp)?;
+        replica.open_with_bounds(values, bounds, stamp)?;
         Ok(replica)
     }
 }
@@ -172,16 +182,36 @@ impl<A: AsRef<[u8]> + AsMut<[u8]>> Replica<A> {
         (self.record.as_mut(), self.bodies.as_mut())
     }
 
-    /// Opens the replica with these start values, one for each object, and this start stamp: nothing pending, every
-    /// reader closed, every client's last number 0. Both areas are filled, whatever they held.
+    /// Opens the replica with these start values, one for each object, the [widest](Bounds::widest) bounds and this start
+    /// stamp: nothing pending, every reader closed, every client's last number 0. Both areas are filled, whatever they
+    /// held.
     ///
     /// # Errors
     ///
     /// In this order: [`Refusal::Area`] (for the lengths alone), [`Refusal::Objects`].
     pub fn open(&mut self, values: &[i64], stamp: u32) -> Result<(), Refusal> {
+        self.open_with_bounds(values, Bounds::widest(values.len()), stamp)
+    }
+
+    /// Opens the replica as [`open`](Replica::open) does, with a lower and an upper bound for each object.
+    ///
+    /// ```
+    /// # use jobstore::{Bounds, Refusal, Replica};
+    /// let tanks = Bounds { lower: &[0, 0], upper: &[50, 80] };
+    /// let mut replica = Replica::new();
+    /// assert_eq!(replica.open_with_bounds(&[20, 80], tanks, 0), Ok(()));
+    /// assert_eq!(replica.open_with_bounds(&[20, -4], tanks, 0), Err(Refusal::Bounds));
+    /// assert_eq!(replica.open_with_bounds(&[20], tanks, 0), Err(Refusal::Objects));
+    /// ```
+    ///
+    /// # Errors
+    ///
+    /// In this order: [`Refusal::Area`] (for the lengths alone), [`Refusal::Objects`], [`Refusal::Bounds`].
+    pub fn open_with_bounds(&mut self, values: &[i64], bounds: Bounds, stamp: u32) -> Result<(), Refusal> {
         let n = u32::try_from(values.len()).unwrap_or(u32::MAX);
+        let Bounds { lower, upper } = bounds;
         let (record, bodies) = self.areas_mut();
-        // SAFETY: the slices are valid for their lengths and, each a borrow, overlap one another nowhere.
+        // SAFETY: the slices are valid for their lengths, and the areas, borrowed alone, overlap none of the others.
         let number = unsafe {
             raw::jobstore_open(
                 record.as_mut_ptr(),
@@ -191,6 +221,10 @@ impl<A: AsRef<[u8]> + AsMut<[u8]>> Replica<A> {
                 n,
                 values.as_ptr(),
                 values.len(),
+                lower.as_ptr(),
+                lower.len(),
+                upper.as_ptr(),
+                upper.len(),
                 stamp,
             )
         };

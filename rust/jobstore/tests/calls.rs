@@ -1,6 +1,6 @@
-//! The ten cases of "A small depot" and each refusal.
+//! The ten cases of "A small depot", bounds, and each refusal.
 
-use jobstore::{Body, Committed, Executed, Found, Outcome, Refusal, Replica, BODIES_LENGTH, RECORD_LENGTH};
+use jobstore::{Body, Bounds, Committed, Executed, Found, Outcome, Refusal, Replica, BODIES_LENGTH, RECORD_LENGTH};
 
 fn add_5() -> Body {
     Body::new().load(0, 0).set(1, 5).add(0, 1).store(0, 0)
@@ -152,6 +152,93 @@ fn a_fail_stores_nothing_and_takes_a_stamp() -> Result<(), Refusal> {
     assert_eq!(executed(replica.work(4096)?), (2, 1));
     assert_eq!(committed(replica.deliver_final((1, 1))?), (Outcome::Fail, true, 1, 0));
     assert_eq!(table(&replica, 1)?, [10]);
+    Ok(())
+}
+
+/// Two tanks, 20 litres in each: the first holds 0 to 50, the second 20 to 20.
+fn tanks() -> Result<Replica, Refusal> {
+    Replica::opened_with_bounds(&[20, 20], Bounds { lower: &[0, 20], upper: &[50, 20] }, 0)
+}
+
+/// Both tanks get so much more.
+fn fill(litres: i64) -> Body {
+    let fill = |body: Body, tank| body.load(0, tank).add(0, 1).store(0, tank);
+    fill(fill(Body::new().set(1, litres), 1), 0)
+}
+
+#[test]
+fn a_store_at_a_bound_is_inside() -> Result<(), Refusal> {
+    for (amount, left) in [(-20, 0), (30, 50), (0, 20)] {
+        let mut replica = tanks()?;
+        replica.deliver_early((1, 1), Body::new().load(0, 0).set(1, amount).add(0, 1).store(0, 0))?;
+        assert_eq!(committed(replica.deliver_final((1, 1))?), (Outcome::Done, false, 1, 1));
+        assert_eq!(table(&replica, 2)?, [left, 20]);
+    }
+    Ok(())
+}
+
+#[test]
+fn a_store_outside_stores_nothing_and_takes_a_stamp() -> Result<(), Refusal> {
+    for amount in [-24, -21, 31, i64::MAX - 20] {
+        let mut replica = tanks()?;
+        let body = Body::new().set(1, amount).load(0, 0).store(0, 1).add(0, 1).store(0, 0).fail();
+        replica.deliver_early((1, 1), body)?;
+        assert_eq!(committed(replica.deliver_final((1, 1))?), (Outcome::Outside, false, 1, 0));
+        assert_eq!(table(&replica, 2)?, [20, 20]);
+    }
+    Ok(())
+}
+
+/// The store that stops a run is carried out: it counts in work. Each object has bounds of its own.
+#[test]
+fn early_runs_stop_at_a_store_outside() -> Result<(), Refusal> {
+    let mut replica = tanks()?;
+    replica.deliver_early((1, 1), fill(1))?;
+    replica.deliver_early((2, 1), fill(0))?;
+    assert_eq!(executed(replica.work(3)?), (3, 0));
+    assert_eq!(executed(replica.work(1)?), (1, 1));
+    assert_eq!(executed(replica.work(100)?), (7, 2));
+    assert_eq!(committed(replica.deliver_final((1, 1))?), (Outcome::Outside, true, 1, 0));
+    assert_eq!(committed(replica.deliver_final((2, 1))?), (Outcome::Done, true, 2, 2));
+    assert_eq!(table(&replica, 2)?, [20, 20]);
+    Ok(())
+}
+
+/// Early the draw came behind the filling; finally it comes first, and is run again.
+#[test]
+fn what_was_inside_early_may_be_outside_in_the_end() -> Result<(), Refusal> {
+    let mut replica = tanks()?;
+    replica.deliver_early((1, 1), Body::new().load(0, 0).set(1, 30).add(0, 1).store(0, 0))?;
+    replica.deliver_early((2, 1), Body::new().load(0, 0).set(1, 24).subtract(0, 1).store(0, 0))?;
+    assert_eq!(executed(replica.work(100)?), (8, 2));
+    assert_eq!(committed(replica.deliver_final((2, 1))?), (Outcome::Outside, false, 1, 0));
+    assert_eq!(committed(replica.deliver_final((1, 1))?), (Outcome::Done, true, 2, 1));
+    assert_eq!(table(&replica, 2)?, [50, 20]);
+    Ok(())
+}
+
+#[test]
+fn no_bounds_are_the_widest() -> Result<(), Refusal> {
+    let values = [i64::MIN, i64::MAX, 0];
+    let widest = Bounds { lower: &[i64::MIN; 3], upper: &[i64::MAX; 3] };
+    assert!(Replica::opened(&values, 7)? == Replica::opened_with_bounds(&values, widest, 7)?);
+    Ok(())
+}
+
+#[test]
+fn refused_bounds() -> Result<(), Refusal> {
+    let mut replica = tanks()?;
+    let mut open = |lower: &[i64], upper: &[i64]| {
+        refused(&mut replica, |r| r.open_with_bounds(&[20, 20], Bounds { lower, upper }, 0))
+    };
+    // A number of bounds is wrong before a bound is: 30 would be outside.
+    for wrong in [&[][..], &[20], &[30], &[20, 20, 20]] {
+        assert_eq!(open(wrong, &[20, 20]), Some(Refusal::Objects));
+        assert_eq!(open(&[20, 20], wrong), Some(Refusal::Objects));
+    }
+    assert_eq!(open(&[0, 21], &[50, 50]), Some(Refusal::Bounds));
+    assert_eq!(open(&[0, 0], &[19, 50]), Some(Refusal::Bounds));
+    assert_eq!(open(&[0, 30], &[50, 10]), Some(Refusal::Bounds));
     Ok(())
 }
 

@@ -299,7 +299,7 @@ fn early_results_of_another_rule_are_kept() -> Result<(), Refusal> {
     let mut there = here.copy();
     assert_eq!(here.work(100)?.finished, 1);
     // docs/LAYOUT.md: row 0, the value of entry 1. Entry 0 is the read.
-    let stored = 17_616 + 80 + 16;
+    let stored = 19_664 + 80 + 16;
     assert_eq!(here.record()[stored], 2);
     here.areas_mut().0[stored] = 3;
     assert!(here.deliver_final((1, 1))?.kept);

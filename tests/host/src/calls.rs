@@ -4,9 +4,31 @@ use crate::body::decode;
 use jobstore::raw::{Committed, Executed, Found, Value};
 use std::fmt;
 
+/// What an opening is given. That there are n values and n of each bound is for the replica to ask.
+#[derive(Clone, PartialEq, Eq)]
+pub struct Opening {
+    pub n: u32,
+    pub values: Vec<i64>,
+    pub lower: Vec<i64>,
+    pub upper: Vec<i64>,
+    pub stamp: u32,
+}
+
+impl Opening {
+    /// The widest bounds.
+    pub fn plain(values: &[i64], stamp: u32) -> Opening {
+        let n = values.len();
+        Opening { n: n as u32, values: values.to_vec(), lower: vec![i64::MIN; n], upper: vec![i64::MAX; n], stamp }
+    }
+
+    pub fn is_plain(&self) -> bool {
+        *self == Opening::plain(&self.values, self.stamp)
+    }
+}
+
 #[derive(Clone, PartialEq, Eq)]
 pub enum Call {
-    Open { n: u32, values: Vec<i64>, stamp: u32 },
+    Open(Opening),
     Early { client: u32, sequence: u32, body: Vec<u8> },
     Work { count: u32 },
     Final { client: u32, sequence: u32 },
@@ -29,7 +51,7 @@ pub enum Answer {
 
 /// What has the nine calls. Answers are the papers': a number, and what stands beside it.
 pub trait Calls {
-    fn open(&mut self, n: u32, values: &[i64], stamp: u32) -> u32;
+    fn open(&mut self, opening: &Opening) -> u32;
     fn early(&mut self, client: u32, sequence: u32, body: &[u8]) -> u32;
     fn work(&mut self, count: u32) -> Executed;
     fn deliver_final(&mut self, client: u32, sequence: u32) -> Committed;
@@ -42,7 +64,7 @@ pub trait Calls {
 
     fn perform(&mut self, call: &Call) -> Answer {
         match *call {
-            Call::Open { n, ref values, stamp } => Answer::Number(self.open(n, values, stamp)),
+            Call::Open(ref opening) => Answer::Number(self.open(opening)),
             Call::Early { client, sequence, ref body } => Answer::Number(self.early(client, sequence, body)),
             Call::Work { count } => Answer::Executed(self.work(count)),
             Call::Final { client, sequence } => Answer::Committed(self.deliver_final(client, sequence)),
@@ -59,7 +81,7 @@ impl Call {
     /// The paper's name.
     pub fn name(&self) -> &'static str {
         match self {
-            Call::Open { .. } => "open",
+            Call::Open(_) => "open",
             Call::Early { .. } => "early",
             Call::Work { .. } => "work",
             Call::Final { .. } => "final",
@@ -101,10 +123,21 @@ impl Answer {
     }
 }
 
+impl fmt::Debug for Opening {
+    fn fmt(&self, out: &mut fmt::Formatter) -> fmt::Result {
+        write!(out, "open {} {:?} {}", self.n, self.values, self.stamp)?;
+        if self.is_plain() {
+            Ok(())
+        } else {
+            write!(out, " lower {:?} upper {:?}", self.lower, self.upper)
+        }
+    }
+}
+
 impl fmt::Debug for Call {
     fn fmt(&self, out: &mut fmt::Formatter) -> fmt::Result {
         match self {
-            Call::Open { n, values, stamp } => write!(out, "open {n} {values:?} {stamp}"),
+            Call::Open(opening) => write!(out, "{opening:?}"),
             Call::Early { client, sequence, body } => match decode(body, 16, 128) {
                 Ok(operations) => write!(out, "early ({client}, {sequence}) {operations:?}"),
                 Err(flaw) => write!(out, "early ({client}, {sequence}) {body:?} ({flaw})"),

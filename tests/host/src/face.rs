@@ -1,9 +1,9 @@
 //! The Rust package, its answers turned back into the papers' numbers.
 
-use crate::calls::Calls;
+use crate::calls::{Calls, Opening};
 use crate::library::Library;
 use jobstore::raw::{Committed, Executed, Found, Value};
-use jobstore::{Refusal, Replica};
+use jobstore::{Bounds, Refusal, Replica};
 
 pub struct Face {
     replica: Replica,
@@ -37,10 +37,15 @@ pub fn committed(answer: Result<jobstore::Committed, Refusal>) -> Committed {
 
 /// Zeros beside a refusal: what the package does not give, and so cannot get wrong.
 impl Calls for Face {
-    /// The package counts the values itself: `n` is their number.
-    fn open(&mut self, n: u32, values: &[i64], stamp: u32) -> u32 {
-        assert_eq!(n as usize, values.len());
-        number(self.replica.open(values, stamp))
+    /// The package counts the values itself: `n` is their number. It has a call of its own for the widest bounds.
+    fn open(&mut self, opening: &Opening) -> u32 {
+        let Opening { n, values, lower, upper, stamp } = opening;
+        assert_eq!(*n as usize, values.len());
+        number(if opening.is_plain() {
+            self.replica.open(values, *stamp)
+        } else {
+            self.replica.open_with_bounds(values, Bounds { lower, upper }, *stamp)
+        })
     }
 
     fn early(&mut self, client: u32, sequence: u32, body: &[u8]) -> u32 {

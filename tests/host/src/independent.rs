@@ -1,8 +1,8 @@
-//! Document 01 once more, from the paper alone and on ordinary Rust data: the speculative method.
+//! Documents 01 and 02 once more, from the papers alone and on ordinary Rust data: the speculative method.
 //! It shares no code with the proved library.
 
 use crate::body::{decode, quotient, Operation};
-use crate::calls::Calls;
+use crate::calls::{Calls, Opening};
 use crate::coverage::Coverage;
 use crate::limits::{Limits, CLIENTS, LARGEST_BUDGET, REGISTERS};
 use jobstore::raw::{Committed, Executed, Found, Value};
@@ -11,6 +11,13 @@ use jobstore::raw::{Committed, Executed, Found, Value};
 pub struct Version {
     pub timestamp: u32,
     pub value: i64,
+}
+
+/// The values that an object may take: both ends are inside.
+#[derive(Clone, Copy, PartialEq, Eq, Debug)]
+pub struct Bounds {
+    pub lower: i64,
+    pub upper: i64,
 }
 
 /// What an early run left on record. `outcome` is there once the run has ended.
@@ -32,13 +39,14 @@ pub struct Transaction {
     pub run: Run,
 }
 
-/// An opened replica. Versions stand oldest first, pending transactions in optimistic order.
+/// An opened replica. Versions stand oldest first, pending transactions in optimistic order. Each object has bounds.
 #[derive(Clone, PartialEq, Eq, Debug)]
 pub struct State {
     pub timestamp: u32,
     pub last: [u32; CLIENTS],
     pub readers: Vec<Option<u32>>,
     pub objects: Vec<Vec<Version>>,
+    pub bounds: Vec<Bounds>,
     pub pending: Vec<Transaction>,
 }
 
@@ -50,14 +58,26 @@ pub struct Independent {
     pub coverage: Coverage,
 }
 
+impl Bounds {
+    pub const WIDEST: Bounds = Bounds { lower: i64::MIN, upper: i64::MAX };
+
+    pub fn ordered(&self) -> bool {
+        self.lower <= self.upper
+    }
+
+    pub fn contain(&self, value: i64) -> bool {
+        !(value < self.lower || self.upper < value)
+    }
+}
+
 impl Run {
     /// Carries out one operation of a run that has not ended, and names what happened.
-    pub fn step(&mut self, program: &[Operation], table: &[i64]) -> &'static str {
+    pub fn step(&mut self, program: &[Operation], table: &[i64], bounds: &[Bounds]) -> &'static str {
         let operation = program[self.program_counter];
         self.program_counter += 1;
         let event = match operation {
             Operation::Load(register, object) => self.load(register, object, table),
-            Operation::Store(register, object) => self.store(register, object),
+            Operation::Store(register, object) => self.store(register, object, bounds[object]),
             Operation::Set(register, constant) => {
                 self.registers[register] = constant;
                 "set"
@@ -91,9 +111,13 @@ impl Run {
         event
     }
 
-    fn store(&mut self, register: usize, object: usize) -> &'static str {
+    fn store(&mut self, register: usize, object: usize, bounds: Bounds) -> &'static str {
         let value = self.registers[register];
-        match self.writes.iter_mut().find(|(stored, _)| *stored == object) {
+        if !bounds.contain(value) {
+            let first = self.writes.is_empty();
+            return self.stop(3, outside(value < bounds.lower, first));
+        }
+        let event = match self.writes.iter_mut().find(|(stored, _)| *stored == object) {
             Some(write) => {
                 write.1 = value;
                 "store of an object stored before"
@@ -102,6 +126,11 @@ impl Run {
                 self.writes.push((object, value));
                 "store"
             }
+        };
+        match value {
+            _ if value == bounds.lower => "store at its lower bound",
+            _ if value == bounds.upper => "store at its upper bound",
+            _ => event,
         }
     }
 
@@ -137,6 +166,15 @@ impl Run {
 
     pub fn matches(&self, table: &[i64]) -> bool {
         self.reads.iter().all(|&(object, value)| table[object] == value)
+    }
+}
+
+fn outside(below: bool, first: bool) -> &'static str {
+    match (below, first) {
+        (true, true) => "store below its lower bound",
+        (true, false) => "store below its lower bound, after other stores",
+        (false, true) => "store above its upper bound",
+        (false, false) => "store above its upper bound, after other stores",
     }
 }
 
@@ -217,7 +255,7 @@ impl Independent {
         let table = state.committed();
         let Transaction { client, sequence, body, run } = state.pending.remove(place);
         let kept = run.outcome.is_some() && run.matches(&table);
-        let run = if kept { run } else { whole(&body, self.limits, &table, &mut self.coverage) };
+        let run = if kept { run } else { whole(&body, self.limits, &table, &state.bounds, &mut self.coverage) };
         state.timestamp += 1;
         for &(object, value) in &run.writes {
             state.objects[object].push(Version { timestamp: state.timestamp, value });
@@ -232,16 +270,22 @@ impl Independent {
 }
 
 impl Calls for Independent {
-    fn open(&mut self, n: u32, values: &[i64], stamp: u32) -> u32 {
-        let n = n as usize;
-        if n < 1 || n > self.limits.objects || values.len() != n {
+    fn open(&mut self, opening: &Opening) -> u32 {
+        let Opening { n, values, lower, upper, stamp: timestamp } = opening;
+        let (n, timestamp) = (*n as usize, *timestamp);
+        if n < 1 || n > self.limits.objects || [values, lower, upper].iter().any(|list| list.len() != n) {
             return 2;
         }
+        let bounds: Vec<Bounds> = lower.iter().zip(upper).map(|(&lower, &upper)| Bounds { lower, upper }).collect();
+        if bounds.iter().zip(values).any(|(bounds, &value)| !bounds.ordered() || !bounds.contain(value)) {
+            return 15;
+        }
         self.state = Some(State {
-            timestamp: stamp,
+            timestamp,
             last: [0; CLIENTS],
             readers: vec![None; self.limits.readers],
-            objects: values.iter().map(|&value| vec![Version { timestamp: stamp, value }]).collect(),
+            objects: values.iter().map(|&value| vec![Version { timestamp, value }]).collect(),
+            bounds,
             pending: Vec::new(),
         });
         0
@@ -279,7 +323,7 @@ impl Calls for Independent {
         for pending in &mut state.pending {
             let program = decode(&pending.body, self.limits.operations, table.len()).unwrap();
             while pending.run.outcome.is_none() && operations < count {
-                self.coverage.count(pending.run.step(&program, &table));
+                self.coverage.count(pending.run.step(&program, &table, &state.bounds));
                 operations += 1;
             }
             if pending.run.outcome.is_none() {
@@ -361,11 +405,11 @@ impl Calls for Independent {
 }
 
 /// The body run from its start to its end on one table.
-fn whole(body: &[u8], limits: Limits, table: &[i64], coverage: &mut Coverage) -> Run {
+fn whole(body: &[u8], limits: Limits, table: &[i64], bounds: &[Bounds], coverage: &mut Coverage) -> Run {
     let program = decode(body, limits.operations, table.len()).unwrap();
     let mut run = Run::default();
     while run.outcome.is_none() {
-        coverage.count(run.step(&program, table));
+        coverage.count(run.step(&program, table, bounds));
     }
     run
 }

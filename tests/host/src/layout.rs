@@ -1,8 +1,8 @@
-//! The two areas as docs/LAYOUT.md describes them: a reader that asks all that document 01's shape check asks and
-//! that unused bytes are 0, and a printer.
+//! The two areas as docs/LAYOUT.md describes them: a reader that asks all that the papers' shape check asks and that
+//! unused bytes are 0, and a printer.
 
 use crate::body::decode;
-use crate::independent::{held, newest, Run, State, Transaction, Version};
+use crate::independent::{held, newest, Bounds, Run, State, Transaction, Version};
 use crate::limits::{Limits, CLIENTS, REGISTERS};
 
 /// First cells of the parts of the record area.
@@ -23,8 +23,15 @@ impl Limits {
     pub fn object_count(&self) -> usize {
         READERS + self.readers
     }
+    /// Cells in an object: its bounds stand behind the places of its versions.
+    pub fn lower(&self) -> usize {
+        1 + 2 * (self.readers + 1)
+    }
+    pub fn upper(&self) -> usize {
+        self.lower() + 1
+    }
     pub fn object_cells(&self) -> usize {
-        3 + 2 * self.readers
+        self.upper() + 1
     }
     pub fn object(&self, index: usize) -> usize {
         self.object_count() + 1 + index * self.object_cells()
@@ -87,18 +94,21 @@ pub const SENTENCES: &[Unshaped] = &[
     "version stamps not above the unit's",
     "a version for every open reader",
     "each version held by the rule",
+    "lower bounds not above their upper ones",
+    "versions inside their object's bounds",
     "a client 0 to 15",
     "pending keys unspent",
     "pending keys distinct",
     "bodies well formed",
     "finished first, then at most one partly run",
     "place at most m",
-    "outcome 0 to 2",
+    "outcome 0 to 3",
     "reads and stores no more than the place",
     "reads no more than reads and stores",
     "a transaction not begun has no outcome",
     "a transaction not begun has registers 0",
-    "no stores with 1 or 2",
+    "no stores with 1, 2 or 3",
+    "stores inside their object's bounds",
     "reads and stores name objects below n",
     "reads and stores name different objects",
 ];
@@ -120,12 +130,14 @@ pub fn parse(limits: Limits, record: &[u8], bodies: &[u8]) -> Result<State, Unsh
         last: areas.lasts()?,
         readers: areas.readers(timestamp)?,
         objects: Vec::new(),
+        bounds: Vec::new(),
         pending: Vec::new(),
     };
     let n = areas.count(limits.object_count(), limits.objects, "n within its limit")?;
     ask(n >= 1, "n at least 1")?;
     for index in 0..n {
         state.objects.push(areas.object(index, timestamp, &state.readers)?);
+        state.bounds.push(areas.bounds(index, &state.objects[index])?);
     }
     let pending = areas.count(limits.pending_count(), limits.pending, "pending count within its limit")?;
     for index in 0..pending {
@@ -191,6 +203,16 @@ impl Reader<'_> {
         Ok(versions)
     }
 
+    fn bounds(&self, index: usize, versions: &[Version]) -> Result<Bounds, Unshaped> {
+        let at = self.limits.object(index);
+        let bounds =
+            Bounds { lower: self.signed(at + self.limits.lower()), upper: self.signed(at + self.limits.upper()) };
+        ask(bounds.ordered(), "lower bounds not above their upper ones")?;
+        let inside = versions.iter().all(|version| bounds.contain(version.value));
+        ask(inside, "versions inside their object's bounds")?;
+        Ok(bounds)
+    }
+
     /// `state` holds all that stands before this row.
     fn transaction(&self, index: usize, state: &State) -> Result<Transaction, Unshaped> {
         let key = self.cell(self.limits.row(index) + KEY);
@@ -204,6 +226,8 @@ impl Reader<'_> {
         let body = place[..1 + 11 * m].to_vec();
         ask(decode(&body, self.limits.operations, state.objects.len()).is_ok(), "bodies well formed")?;
         let run = self.run(index, m, state.objects.len())?;
+        let inside = run.writes.iter().all(|&(object, value)| state.bounds[object].contain(value));
+        ask(inside, "stores inside their object's bounds")?;
         let run_before = state.pending.last().map(|before| &before.run);
         let finished_before = run_before.map_or(true, |before| before.outcome.is_some());
         ask(finished_before || run.program_counter == 0, "finished first, then at most one partly run")?;
@@ -213,7 +237,7 @@ impl Reader<'_> {
     fn run(&self, index: usize, m: usize, n: usize) -> Result<Run, Unshaped> {
         let row = self.limits.row(index);
         let program_counter = self.count(row + PROGRAM_COUNTER, m, "place at most m")?;
-        let outcome = self.count(row + OUTCOME, 2, "outcome 0 to 2")? as u32;
+        let outcome = self.count(row + OUTCOME, 3, "outcome 0 to 3")? as u32;
         let entries = self.count(row + ENTRY_COUNT, program_counter, "reads and stores no more than the place")?;
         let reads = self.count(row + READ_COUNT, entries, "reads no more than reads and stores")?;
         let set = |from, to| self.entries(row, from, to, n);
@@ -226,7 +250,7 @@ impl Reader<'_> {
             ask(run.registers == [0; REGISTERS], "a transaction not begun has registers 0")?;
         } else if outcome != 0 || program_counter == m {
             run.outcome = Some(outcome);
-            ask(outcome == 0 || run.writes.is_empty(), "no stores with 1 or 2")?;
+            ask(outcome == 0 || run.writes.is_empty(), "no stores with 1, 2 or 3")?;
         }
         Ok(run)
     }
@@ -264,6 +288,8 @@ pub fn print(limits: Limits, state: &State) -> (Vec<u8>, Vec<u8>) {
             put(at + 1 + 2 * j, u64::from(version.timestamp));
             put(at + 2 + 2 * j, version.value as u64);
         }
+        put(at + limits.lower(), state.bounds[index].lower as u64);
+        put(at + limits.upper(), state.bounds[index].upper as u64);
     }
     put(limits.pending_count(), state.pending.len() as u64);
     for (index, transaction) in state.pending.iter().enumerate() {
@@ -302,9 +328,10 @@ mod tests {
 
     #[test]
     fn lengths_as_written_down() {
-        assert_eq!((STANDARD.record_length(), STANDARD.bodies_length()), (28_112, 5_664));
-        assert_eq!((SMALL.record_length(), SMALL.bodies_length()), (2_664, 712));
-        assert_eq!((STANDARD.object_count(), STANDARD.object(1), STANDARD.pending_count()), (24, 42, 2_201));
-        assert_eq!((STANDARD.row(0), STANDARD.row(1)), (2_202, 2_243));
+        assert_eq!((STANDARD.record_length(), STANDARD.bodies_length()), (30_160, 5_664));
+        assert_eq!((SMALL.record_length(), SMALL.bodies_length()), (2_920, 712));
+        assert_eq!((STANDARD.object_count(), STANDARD.object(1), STANDARD.pending_count()), (24, 44, 2_457));
+        assert_eq!((STANDARD.lower(), STANDARD.upper(), STANDARD.object_cells()), (17, 18, 19));
+        assert_eq!((STANDARD.row(0), STANDARD.row(1)), (2_458, 2_499));
     }
 }

@@ -1,7 +1,7 @@
 //! The proved library by its exports, in two areas of its own. A refusal's number and the zeros beside it are seen here
 //! as C sees them; `face.rs` has the Rust package.
 
-use crate::calls::Calls;
+use crate::calls::{Calls, Opening};
 use jobstore::raw::{self, Committed, Executed, Found, Value};
 use jobstore::{BODIES_LENGTH, RECORD_LENGTH};
 
@@ -23,19 +23,23 @@ impl Library {
 // SAFETY, of each call: the areas and the lent slices are valid for the lengths given and overlap nowhere, and no call
 // keeps a pointer. A call that takes `&self` writes nothing, by its contract.
 impl Calls for Library {
-    fn open(&mut self, n: u32, values: &[i64], stamp: u32) -> u32 {
+    fn open(&mut self, opening: &Opening) -> u32 {
         let (record, bodies) = (&mut self.record, &mut self.bodies);
-        let (values, count) = (values.as_ptr(), values.len());
+        let Opening { n, values, lower, upper, stamp } = opening;
         unsafe {
             raw::jobstore_open(
                 record.as_mut_ptr(),
                 record.len(),
                 bodies.as_mut_ptr(),
                 bodies.len(),
-                n,
-                values,
-                count,
-                stamp,
+                *n,
+                values.as_ptr(),
+                values.len(),
+                lower.as_ptr(),
+                lower.len(),
+                upper.as_ptr(),
+                upper.len(),
+                *stamp,
             )
         }
     }

@@ -1,8 +1,8 @@
-//! "The plain table" of document 01: it is fed the calls' arguments only and runs the finally delivered
+//! "The plain table" of documents 01 and 02: it is fed the calls' arguments only and runs the finally delivered
 //! transactions one after another. What the paper leaves out of the comparison (work's counts, kept or run again) is 0.
 
 use crate::body::{decode, quotient, Operation};
-use crate::calls::Calls;
+use crate::calls::{Calls, Opening};
 use crate::limits::{Limits, CLIENTS, LARGEST_BUDGET, REGISTERS};
 use jobstore::raw::{Committed, Executed, Found, Value};
 
@@ -10,6 +10,15 @@ use jobstore::raw::{Committed, Executed, Found, Value};
 pub struct Object {
     pub value: i64,
     pub timestamp: u32,
+    pub lower: i64,
+    pub upper: i64,
+}
+
+impl Object {
+    /// A test of its own: the method's is another one.
+    fn takes(&self, value: i64) -> bool {
+        (self.lower..=self.upper).contains(&value)
+    }
 }
 
 #[derive(Clone, PartialEq, Eq, Debug)]
@@ -55,7 +64,8 @@ impl Serial {
             next += 1;
             match operation {
                 Operation::Load(r, o) => registers[r] = table[o].unwrap_or(self.objects[o].value),
-                Operation::Store(r, o) => table[o] = Some(registers[r]),
+                Operation::Store(r, o) if self.objects[o].takes(registers[r]) => table[o] = Some(registers[r]),
+                Operation::Store(..) => return (3, table),
                 Operation::Set(r, constant) => registers[r] = constant,
                 Operation::Add(..) | Operation::Subtract(..) => match sum(&registers, operation) {
                     Ok((r, value)) => registers[r] = value,
@@ -71,13 +81,19 @@ impl Serial {
 }
 
 impl Calls for Serial {
-    fn open(&mut self, n: u32, values: &[i64], stamp: u32) -> u32 {
-        if n == 0 || n > self.limits.objects as u32 || values.len() as u64 != u64::from(n) {
+    fn open(&mut self, opening: &Opening) -> u32 {
+        let Opening { n, ref values, ref lower, ref upper, stamp: timestamp } = *opening;
+        let lengths = [values.len(), lower.len(), upper.len()];
+        if n == 0 || n > self.limits.objects as u32 || lengths != [n as usize; 3] {
             return 2;
         }
-        *self = Serial::new(self.limits);
-        self.timestamp = stamp;
-        self.objects = values.iter().map(|&value| Object { value, timestamp: stamp }).collect();
+        let object = |o: usize| Object { value: values[o], timestamp, lower: lower[o], upper: upper[o] };
+        let objects: Vec<Object> = (0..n as usize).map(object).collect();
+        // Nothing is inside bounds of which the lower is above the upper.
+        if !objects.iter().all(|object| object.takes(object.value)) {
+            return 15;
+        }
+        *self = Serial { timestamp, objects, ..Serial::new(self.limits) };
         0
     }
 
@@ -119,7 +135,7 @@ impl Calls for Serial {
         let mut stored = 0;
         for (object, value) in self.objects.iter_mut().zip(table) {
             if let (0, Some(value)) = (outcome, value) {
-                *object = Object { value, timestamp: self.timestamp };
+                *object = Object { value, timestamp: self.timestamp, ..*object };
                 stored += 1;
             }
         }

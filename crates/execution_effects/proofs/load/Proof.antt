@@ -57,6 +57,9 @@ returns-2 c =
 mul-value : tie.Need-mul-value
 mul-value c = search needs
 
+mul-value-2 : tie.Need-mul-value-2
+mul-value-2 c = search needs
+
 shared-slice-copy-out-value : tie.Need-shared-slice-copy-out-value
 shared-slice-copy-out-value c = search needs
 
@@ -66,23 +69,23 @@ mul-ro c = search needs
 element-write-ro : tie.Need-element-write-ro
 element-write-ro c = search needs
 
-mul-value-2 : tie.Need-mul-value-2
-mul-value-2 c = search needs
+mul-value-3 : tie.Need-mul-value-3
+mul-value-3 c = search needs
 
 element-set-from-value : tie.Need-element-set-from-value
 element-set-from-value c = search needs
 
-mul-value-3 : tie.Need-mul-value-3
-mul-value-3 c = search needs
+mul-value-4 : tie.Need-mul-value-4
+mul-value-4 c = search needs
 
 element-set-from-value-2 : tie.Need-element-set-from-value-2
 element-set-from-value-2 c = search needs
 
+add-t28 : tie.Need-add-t28
+add-t28 c = search needs
+
 add-t27 : tie.Need-add-t27
 add-t27 c = search needs
-
-add-t36 : tie.Need-add-t36
-add-t36 c = search needs
 
 returns-3 : tie.Need-returns-3
 returns-3 c =
@@ -112,13 +115,14 @@ load-spec =
     assign-requires-2
     returns-2
     mul-value
+    mul-value-2
     shared-slice-copy-out-value
     mul-ro
     element-write-ro
-    mul-value-2
-    element-set-from-value
     mul-value-3
+    element-set-from-value
+    mul-value-4
     element-set-from-value-2
+    add-t28
     add-t27
-    add-t36
     returns-3)

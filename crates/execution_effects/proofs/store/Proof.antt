@@ -1,13 +1,43 @@
 -- `store`: each way out is a law of specs/OneOperation; a value read back from its bits is itself.
+use mathlib.Core.Path.{_≡_, sym, ap, _∙_}
+use mathlib.Core.Bool.{Bool, not, Bool·not-not}
 use native.Mathlib.Omega.{arith}
 use denote.Ref.{now}
 use borrow.Author.Needs.{needs}
 use Rattle.arith.specs.IntegerLaws.{read-back}
-use Rattle.execution.specs.Run.{register}
+use Rattle.execution.specs.Run.{table-of, register}
 use Rattle.execution.specs.Arrays.{room-set}
-use Rattle.execution_effects.specs.OneOperation.{bounded-advanced, store-again, store-new}
+use Rattle.execution_effects.specs.OneOperation.{bounded-advanced, bounded-stopped, store-outside, store-again, store-new}
 use Rattle.execution_effects.proofs.store.Statement.{statement}
 use Rattle.execution_effects.proofs.store.Tie as tie
+
+-- the test asks what the table asks of the register's value
+tested : (c : tie.After-allows) {t : Bool} → not (c .allows .result) ≡ t → (let a = c .before .before .args in table-of (now (a .table)) .allow (a .o) (register (now (a .registers)) (a .r)) ≡ not t)
+tested c e =
+    let same = rw (read-back (c .before .v .given)) at (c .allows .ensures) in
+    sym same ∙ sym (Bool·not-not (c .allows .result)) ∙ ap not e
+
+mul-v : tie.Need-mul-v
+mul-v c = search needs
+
+element-copy-out-v : tie.Need-element-copy-out-v
+element-copy-out-v c = search needs
+
+allows-requires : tie.Need-allows-requires
+allows-requires c κs = search needs
+
+stop-requires : tie.Need-stop-requires
+stop-requires c κs = search needs
+
+returns : tie.Need-returns
+returns c =
+    let s = c .before .before .before .before in
+    let a = s .args in
+    let p = s .pre in
+    let no-store = tested (c .before .before) (c .before .if1 .taken) in (
+      λ ro rv. store-outside (table-of (now (a .table))) (a .c) (now (a .registers)) ro rv (now (a .wo)) (now (a .wv)) (a .o) (register (now (a .registers)) (a .r)) (c .stop .result) no-store (c .stop .ensures),
+      (bounded-stopped 3 (a .c) (c .stop .result) (c .stop .ensures) (p .0), p .4),
+    )
 
 find-requires : tie.Need-find-requires
 find-requires c κs = search needs
@@ -18,64 +48,63 @@ mul-wo c = search needs
 element-write-wo : tie.Need-element-write-wo
 element-write-wo c = search needs
 
-mul-wv : tie.Need-mul-wv
-mul-wv c = search needs
+mul-v-2 : tie.Need-mul-v-2
+mul-v-2 c = search needs
 
-element-copy-out-wv : tie.Need-element-copy-out-wv
-element-copy-out-wv c = search needs
-
-mul-t16 : tie.Need-mul-t16
-mul-t16 c = search needs
-
-element-set-from-wv : tie.Need-element-set-from-wv
-element-set-from-wv c = search needs
+element-set-from-v : tie.Need-element-set-from-v
+element-set-from-v c = search needs
 
 advance-requires : tie.Need-advance-requires
 advance-requires c κs = search needs
 
-returns : tie.Need-returns
-returns c =
-    let s = c .before .before .before .before .before in
-    let a = s .args in
-    let p = s .pre in
-    let f = c .before .before .before .find in
-    let k = p .0 .writes in
-    let h = p .1 in (
-      λ T ro rv. rw (read-back (c .before .before .wv .given)) (store-again T (a .c) (now (a .registers)) ro rv (now (a .wo)) (now (a .wv)) (a .o) (f .result) (register (now (a .registers)) (a .r)) (f .ensures) (omega arith) (p .3) (c .advance .result) (c .before .if1 .taken) (c .advance .ensures)),
-      (bounded-advanced 0 (a .c) (c .advance .result) (c .advance .ensures) (p .0), room-set (now (a .wo)) (now (a .wv)) (f .result) (a .o) _ (p .3)),
-    )
-
-add-t10 : tie.Need-add-t10
-add-t10 c = search needs
-
-add-t16 : tie.Need-add-t16
-add-t16 c = search needs
-
 returns-2 : tie.Need-returns-2
 returns-2 c =
-    let s = c .before .before .before .before .before in
+    let tests = c .before .before .before .before in
+    let s = tests .before .before .before in
     let a = s .args in
     let p = s .pre in
-    let f = c .before .before .before .find in
+    let f = c .before .before .find in
     let k = p .0 .writes in
     let h = p .1 in (
-      λ T ro rv. rw (read-back (c .before .before .wv .given)) (store-new T (a .c) (now (a .registers)) ro rv (now (a .wo)) (now (a .wv)) (a .o) (f .result) (register (now (a .registers)) (a .r)) (f .ensures) (omega arith) (p .3) (c .before .if1 .left)),
-      (record { reads = omega (arith, p .0 .reads); writes = omega arith }, room-set (now (a .wo)) (now (a .wv)) (f .result) (a .o) _ (p .3)),
+      λ ro rv. rw (read-back (tests .before .before .v .given)) (store-again (table-of (now (a .table))) (a .c) (now (a .registers)) ro rv (now (a .wo)) (now (a .wv)) (a .o) (f .result) (register (now (a .registers)) (a .r)) (tested (tests .before) (tests .if1 .left)) (f .ensures) (omega arith) (p .4) (c .advance .result) (c .before .if2 .taken) (c .advance .ensures)),
+      (bounded-advanced 0 (a .c) (c .advance .result) (c .advance .ensures) (p .0), room-set (now (a .wo)) (now (a .wv)) (f .result) (a .o) _ (p .4)),
+    )
+
+add-t11 : tie.Need-add-t11
+add-t11 c = search needs
+
+add-t22 : tie.Need-add-t22
+add-t22 c = search needs
+
+returns-3 : tie.Need-returns-3
+returns-3 c =
+    let tests = c .before .before .before .before in
+    let s = tests .before .before .before in
+    let a = s .args in
+    let p = s .pre in
+    let f = c .before .before .find in
+    let k = p .0 .writes in
+    let h = p .1 in (
+      λ ro rv. rw (read-back (tests .before .before .v .given)) (store-new (table-of (now (a .table))) (a .c) (now (a .registers)) ro rv (now (a .wo)) (now (a .wv)) (a .o) (f .result) (register (now (a .registers)) (a .r)) (tested (tests .before) (tests .if1 .left)) (f .ensures) (omega arith) (p .4) (c .before .if2 .left)),
+      (record { reads = omega (arith, p .0 .reads); writes = omega arith }, room-set (now (a .wo)) (now (a .wv)) (f .result) (a .o) _ (p .4)),
     )
 
 pub store-spec : {M : Type 1} → statement M
 store-spec =
     tie.close
     (tie.spec
+    mul-v
+    element-copy-out-v
+    allows-requires
+    stop-requires
+    returns
     find-requires
     mul-wo
     element-write-wo
-    mul-wv
-    element-copy-out-wv
-    mul-t16
-    element-set-from-wv
+    mul-v-2
+    element-set-from-v
     advance-requires
-    returns
-    add-t10
-    add-t16
-    returns-2)
+    returns-2
+    add-t11
+    add-t22
+    returns-3)

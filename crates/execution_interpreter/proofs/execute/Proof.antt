@@ -74,8 +74,8 @@ then c =
     let x = c .step .last .1 .1 in
     run-of-arrays (c .step .result) (x .0) (x .1 .0) (x .1 .1 .0) (x .1 .1 .1 .0) (x .1 .1 .1 .1 .0)
 
--- after an operation the invariant holds but for the outcome, which is one of three
-after : (c : tie.After-step Inv-loop μ-loop) → (let l = c .before .before .before .before .before .before .before .before .before in let s = entry l in Going (table s) (operations (now (s .args .body))) (s .args .budget) (first s) (l .loop .used + 1) (then c)) × (c .step .result .outcome ≤ 2)
+-- after an operation the invariant holds but for the outcome, which is one of four
+after : (c : tie.After-step Inv-loop μ-loop) → (let l = c .before .before .before .before .before .before .before .before .before in let s = entry l in Going (table s) (operations (now (s .args .body))) (s .args .budget) (first s) (l .loop .used + 1) (then c)) × (c .step .result .outcome ≤ 3)
 after c =
     let l = c .before .before .before .before .before .before .before .before .before in
     let s = entry l in
@@ -100,8 +100,8 @@ loop-less c = omega arith
 
 loop-again : tie.Need-loop-again Inv-loop μ-loop
 loop-again c =
-    let x = after (c .before .before .before .before) in
-    let e = c .before .before .before .before .step .ensures in
+    let x = after (c .before .before .before .before .before .before) in
+    let e = c .before .before .before .before .before .before .step .ensures in
     (x .0, omega (arith, x .1), e .1)
 
 returns : tie.Need-returns Inv-loop μ-loop
@@ -131,6 +131,11 @@ returns-4 c =
     let e = c .before .before .before .before .step .ensures in
     (stopped (c .before .before .before .before) 2 (c .if4 .taken) (omega arith), lent-rewritten 2 (e .1))
 
+returns-5 : tie.Need-returns-5 Inv-loop μ-loop
+returns-5 c =
+    let e = c .before .before .before .before .before .before .step .ensures in
+    (stopped (c .before .before .before .before .before .before) 3 (c .if5 .taken) (omega arith), lent-rewritten 3 (e .1))
+
 pub execute-spec : {M : Type 1} → statement M
 execute-spec =
     tie.close
@@ -148,4 +153,5 @@ execute-spec =
     returns
     returns-2
     returns-3
-    returns-4)
+    returns-4
+    returns-5)

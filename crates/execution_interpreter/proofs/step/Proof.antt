@@ -33,9 +33,9 @@ load-limits : (c : tie.After-op) → (let x = c .op .given .0 in (x .0 < 4) × (
 unfolding register-count
 load-limits c = rw (c .op .given .1) at (c .before .before .pre .1 .1)
 
-store-limits : (c : tie.After-op2) → c .op2 .given .0 .0 < 4
+store-limits : (c : tie.After-op2) → (let x = c .op2 .given .0 in (x .0 < 4) × (x .1 .0 < object-count (now (c .before .before .args .table))))
 unfolding register-count
-store-limits c = (rw (c .op2 .given .1) at (c .before .before .pre .1 .1)) .0
+store-limits c = rw (c .op2 .given .1) at (c .before .before .pre .1 .1)
 
 set-limits : (c : tie.After-op3) → c .op3 .given .0 .0 < 4
 unfolding register-count
@@ -74,7 +74,8 @@ enum-known-op-2 c = search needs
 store-requires : tie.Need-store-requires
 store-requires c κs =
     let p = c .before .before .before .before .before .before .pre in
-    (p .0 .bounded, p .1 .0, store-limits (c .before .before .before .before), p .0 .write-room)
+    let l = store-limits (c .before .before .before .before) in
+    (p .0 .bounded, p .1 .0, l .0, l .1, p .0 .write-room)
 
 enum-known-op-3 : tie.Need-enum-known-op-3
 enum-known-op-3 c = search needs
@@ -175,7 +176,7 @@ returns-2 c =
     let s = c .before .before .before .before .before .before .before in
     let a = s .args in
     let p = s .pre in (
-      rw (c .before .before .before .before .before .op2 .given .1) (c .store .ensures .0 (table-of (now (a .table))) (now (a .ro)) (now (a .rv))),
+      rw (c .before .before .before .before .before .op2 .given .1) (c .store .ensures .0 (now (a .ro)) (now (a .rv))),
       record { bounded = c .store .ensures .1 .0; read-room = p .0 .read-room; write-room = c .store .ensures .1 .1 },
     )
 
