@@ -11,17 +11,18 @@ use mir.Val.{toZ}
 use Rattle.cells.specs.Cells.{cells}
 use Rattle.operation.specs.Encode.{encode}
 use Rattle.operation.specs.declared.Operation.the-variants.{Load, Store, Fail}
+use Rattle.execution.specs.Bounds.{inside}
 use Rattle.execution.specs.Run.{start}
 use Rattle.model.specs.declared.Limits.{Limits}
-use Rattle.model.specs.Calls.{Call, by-values, opening, optimistic, execute, final, open-reader, read, find, close-reader, show-body, refused, done, found, body, numbers}
+use Rattle.model.specs.Calls.{Call, plain, opening, optimistic, execute, final, open-reader, read, find, close-reader, show-body, refused, done, found, body, numbers}
 use Rattle.model.specs.Replica.{Replica}
-use Rattle.model.specs.ShapeCheck.{versions-shaped, key-unspent, at-start, names-shaped, run-shaped, in-order, checked, run-encoded, encoded, shaped}
+use Rattle.model.specs.ShapeCheck.{versions-shaped, key-unspent, at-start, names-shaped, stores-inside, run-shaped, in-order, checked, run-encoded, encoded, shaped}
 use Rattle.model.specs.Computing.{computing}
 use Rattle.versions.specs.Block as versions
 use Rattle.versions.specs.Block.{versions-in, block-versions, block, framed}
 use Rattle.layout.specs.Rows.{flat, chunks, table, pad-to}
 use Rattle.layout.specs.Layout.{Areas, parse, print, lengths, laid}
-use Rattle.layout.specs.Offsets.{last-at, reader-at, size-at, object-at, pending-at, row-at, record-length, stamp-at, value-at, counter-at, outcome-at, register-at, reads-at, entries-at, entry-at, body-at, bodies-length}
+use Rattle.layout.specs.Offsets.{last-at, reader-at, size-at, object-at, pending-at, row-at, record-length, stamp-at, value-at, lower-at, upper-at, counter-at, outcome-at, register-at, reads-at, entries-at, entry-at, body-at, bodies-length}
 use Rattle.layout.specs.Fit.{fit}
 use Rattle.layout.specs.Act.{act, unfit}
 
@@ -29,7 +30,7 @@ abbrev tiny : Limits
 tiny = record { objects = 2; pending = 2; readers = 1; operations = 2 }
 
 -- Timestamp 5; client 3's last number is 9; the reader is open at 4. Object 0 is -1 since 5, and was 7 since 2, which the reader sees; object 1 is
--- 8 since 1. (3, 10) has loaded object 0 and stored it to object 1; (0, 1), which fails, is not begun.
+-- 8 since 1. Object 0 lies between -1 and 9, object 1 between -3 and 8. (3, 10) has loaded object 0 and stored it to object 1; (0, 1), which fails, is not begun.
 abbrev state : Replica
 state =
     record {
@@ -43,11 +44,12 @@ state =
           }
           ∷ record { sent = record { client = 0; sequence = 1; bytes = encode (Fail ∷ []) }; run = start } ∷ [];
       readers = some 4 ∷ [];
+      bounds = record { lower = negsuc 0; upper = pos 9 } ∷ record { lower = negsuc 2; upper = pos 8 } ∷ [];
     }
 
 -- the shape check
 unfoldable shape-open : Unit {0}
-unfolding versions-shaped key-unspent at-start names-shaped run-shaped in-order checked run-encoded encoded shaped
+unfolding versions-shaped inside stores-inside key-unspent at-start names-shaped run-shaped in-order checked run-encoded encoded shaped
 shape-open = tt
 
 -- an object's block
@@ -70,8 +72,8 @@ pub example-cells : cells (areas .0) ≡
     ∷ 0 ∷ 0 ∷ 0 ∷ 9 ∷ 0 ∷ 0 ∷ 0 ∷ 0 ∷ 0 ∷ 0 ∷ 0 ∷ 0 ∷ 0 ∷ 0 ∷ 0 ∷ 0  -- last numbers
     ∷ 5  -- the reader
     ∷ 2  -- objects
-    ∷ 2 ∷ 5 ∷ (2 ^ 64 - 1) ∷ 2 ∷ 7
-    ∷ 1 ∷ 1 ∷ 8 ∷ 0 ∷ 0
+    ∷ 2 ∷ 5 ∷ (2 ^ 64 - 1) ∷ 2 ∷ 7 ∷ (2 ^ 64 - 1) ∷ 9
+    ∷ 1 ∷ 1 ∷ 8 ∷ 0 ∷ 0 ∷ (2 ^ 64 - 3) ∷ 8
     ∷ 2  -- pending
     ∷ (3 * 2 ^ 32 + 10) ∷ 2 ∷ 0 ∷ 0 ∷ 0 ∷ (2 ^ 64 - 1) ∷ 0 ∷ 1 ∷ 2 ∷ 0 ∷ (2 ^ 64 - 1) ∷ 1 ∷ (2 ^ 64 - 1)
     ∷ 1 ∷ 0 ∷ 0 ∷ 0 ∷ 0 ∷ 0 ∷ 0 ∷ 0 ∷ 0 ∷ 0 ∷ 0 ∷ 0 ∷ 0
@@ -103,15 +105,16 @@ at k = getD (cells (areas .0)) k 0
 
 pub example-offsets : (at 0 ≡ 5) × (at (last-at 3) ≡ 9) × (at (reader-at 0) ≡ 5) × (at (size-at tiny) ≡ 2)
     × (at (object-at tiny 0 + stamp-at 1) ≡ 2) × (toZ w64 (at (object-at tiny 0 + value-at 0)) ≡ negsuc 0) × (toZ w64 (at (object-at tiny 1 + value-at 0)) ≡ pos 8) × (at (pending-at tiny) ≡ 2)
+    × (toZ w64 (at (object-at tiny 1 + lower-at tiny)) ≡ negsuc 2) × (toZ w64 (at (object-at tiny 0 + upper-at tiny)) ≡ pos 9)
 unfolding all-open
-example-offsets = (refl, refl, refl, refl, refl, refl, refl, refl)
+example-offsets = (refl, refl, refl, refl, refl, refl, refl, refl, refl, refl)
 
 pub example-row : (at (row-at tiny 0) ≡ 3 * 2 ^ 32 + 10) × (at (row-at tiny 0 + counter-at) ≡ 2) × (at (row-at tiny 0 + outcome-at) ≡ 0) × (toZ w64 (at (row-at tiny 0 + register-at 2)) ≡ negsuc 0)
     × (at (row-at tiny 0 + reads-at) ≡ 1) × (at (row-at tiny 0 + entries-at) ≡ 2) × (at (row-at tiny 0 + entry-at 1) ≡ 1) × (at (row-at tiny 1) ≡ 1)
 unfolding all-open
 example-row = (refl, refl, refl, refl, refl, refl, refl, refl)
 
-pub example-lengths : (length (areas .0) ≡ record-length tiny) × (record-length tiny ≡ 448) × (length (areas .1) ≡ bodies-length tiny) × (getD (areas .1) (body-at tiny 1) 0 ≡ 1)
+pub example-lengths : (length (areas .0) ≡ record-length tiny) × (record-length tiny ≡ 480) × (length (areas .1) ≡ bodies-length tiny) × (getD (areas .1) (body-at tiny 1) 0 ≡ 1)
 unfolding all-open
 example-lengths = (refl, refl, refl, refl)
 
@@ -130,7 +133,7 @@ example-unfit = (refl, refl, refl, refl)
 -- what each call yields where the areas are not as asked: "1 and zeros"
 unfoldable pub unfits : List (Call × List ℤ)
 unfits =
-    (opening (by-values 1 (pos 4 ∷ []) 0), pos 1 ∷ [])
+    (opening (plain (pos 4 ∷ []) 0), pos 1 ∷ [])
     ∷ (optimistic 3 11 [], pos 1 ∷ [])
     ∷ (execute 1, pos 1 ∷ pos 0 ∷ pos 0 ∷ [])
     ∷ (final 3 10, pos 1 ∷ pos 0 ∷ pos 0 ∷ pos 0 ∷ pos 0 ∷ [])
@@ -147,7 +150,7 @@ unfit-holds = refl
 
 -- an opening looks at the lengths alone
 abbrev opening-of-4 : Call
-opening-of-4 = opening (by-values 1 (pos 4 ∷ []) 0)
+opening-of-4 = opening (plain (pos 4 ∷ []) 0)
 
 pub example-opening : (act tiny opening-of-4 body-broken .0 ≡ done) × (fit tiny (act tiny opening-of-4 body-broken .1) ≡ true) × (act tiny opening-of-4 (areas .0, []) ≡ (refused 1, (areas .0, [])))
 unfolding all-open
@@ -156,6 +159,6 @@ example-opening = (refl, refl, refl)
 -- ---- calls on them
 
 pub example-calls : (act tiny (find 0 1) areas ≡ (found 1 12, areas)) × (act tiny (show-body 0 1) areas .0 ≡ body (1 ∷ 6 ∷ replicate 10 0)) × (act tiny (close-reader 0) areas .0 ≡ done)
-    × (drop (object-at tiny 0) (take (object-at tiny 1) (cells (act tiny (close-reader 0) areas .1 .0))) ≡ 1 ∷ 5 ∷ (2 ^ 64 - 1) ∷ 0 ∷ 0 ∷ [])
+    × (drop (object-at tiny 0) (take (object-at tiny 1) (cells (act tiny (close-reader 0) areas .1 .0))) ≡ 1 ∷ 5 ∷ (2 ^ 64 - 1) ∷ 0 ∷ 0 ∷ (2 ^ 64 - 1) ∷ 9 ∷ [])
 unfolding all-open
 example-calls = (refl, refl, refl, refl)

@@ -13,9 +13,9 @@ use Rattle.model.specs.Calls.{done, seen, Facts, refusal, judged}
 use Rattle.model.specs.Start.{start-of}
 use Rattle.model.specs.Serial as serial
 use Rattle.model.specs.Serial.{Serial}
-use Rattle.model.specs.Replica.{Replica, newest, facts, perform, opened, call, calls}
+use Rattle.model.specs.Replica.{Replica, committed-objects, facts, perform, opened, call, calls}
 use Rattle.model.specs.ListLaws.{All}
-use Rattle.model.specs.Refusals.{opening-judged, opening-accepted}
+use Rattle.model.specs.Refusals.{opening-judged, Acceptable, opening-accepted}
 use Rattle.model.specs.Queries.{query-same}
 use Rattle.model.specs.ShapeCheck.{shaped}
 use Rattle.model.specs.ShapeKept.{Typed, call-shaped, opening-shaped}
@@ -104,9 +104,9 @@ module _ (l : Limits) (s : Sane l) where
   -- ---- an opening that is accepted on areas with any contents
 
   -- an opening by values within the limits is accepted on areas of the right lengths
-  pub opening-done : (n : ℕ) (vs : List ℤ) (t : ℕ) (a : Areas) → lengths l a ≡ true → 1 ≤ n → n ≤ l .objects → length vs ≡ n → act l (opening (by-values n vs t)) a .0 ≡ done
+  pub opening-done : (n : ℕ) (vs los his : List ℤ) (t : ℕ) (a : Areas) → lengths l a ≡ true → Acceptable l n vs los his → act l (opening (by-values n vs los his t)) a .0 ≡ done
   unfolding act perform
-  opening-done n vs t a h some most m = rw (h, opening-accepted l (facts (parse l a)) n vs t some most m)
+  opening-done n vs los his t a h k = rw (h, opening-accepted l (facts (parse l a)) n vs los his t k)
 
   module _ (o : Opening) (a : Areas) (ok : act l (opening o) a .0 ≡ done) where
     abbrev pub begun : Replica
@@ -162,6 +162,6 @@ module _ (l : Limits) (s : Sane l) where
           let e = acts-parse begun in
           record {
             answers = ap (λ (r : List Answer × Areas). map seen (r .0)) (acts-calls begun) ∙ d .answers;
-            objects = ap (λ (v : Replica). map newest (v .objects)) e ∙ d .objects;
+            objects = ap committed-objects e ∙ d .objects;
             timestamp = ap (λ (v : Replica). v .timestamp) e ∙ d .timestamp;
           }

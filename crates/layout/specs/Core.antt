@@ -13,20 +13,21 @@ use Rattle.cells.specs.Cells.{Below}
 use Rattle.arith.specs.Integer.{fits}
 use Rattle.operation.specs.Body.{register-count, is-well-formed}
 use Rattle.execution.specs.Entries.{Entry}
+use Rattle.execution.specs.Bounds.{Bounds, ordered}
 use Rattle.execution.specs.Run.{Run}
 use Rattle.execution.specs.RunShape.{every, all-fit}
 use Rattle.model.specs.declared.Limits.{Limits}
-use Rattle.model.specs.Lists.{all}
+use Rattle.model.specs.Lists.{all, all₂}
 use Rattle.model.specs.Calls.{Transaction, clients, last-timestamp}
 use Rattle.model.specs.Serial.{Version}
 use Rattle.model.specs.Replica.{Pending, Replica, opens}
 use Rattle.model.specs.ListLaws.{All}
 use Rattle.model.specs.EarlyResults.{sents}
-use Rattle.model.specs.Shape.{distinct-keys, size-of}
+use Rattle.model.specs.Shape.{versions-inside, distinct-keys, size-of, bounds-fit}
 use Rattle.model.specs.ShapeCheck.{versions-shaped, key-unspent, run-shaped, in-order, checked, run-encoded, encoded, shaped}
 use Rattle.layout.specs.Layout.{row-of, Areas, parse, lengths, laid}
 use Rattle.layout.specs.Offsets.{Sane}
-use Rattle.layout.specs.Printable.{ValueFits, VersionFits, EntryFits, RunFits, RowFits, ObjectFits, Printable, few-pending}
+use Rattle.layout.specs.Printable.{ValueFits, BoundsFit, VersionFits, EntryFits, RunFits, RowFits, ObjectFits, Printable, few-pending}
 use Rattle.layout.specs.RoundTrips.{parse-fits}
 use Rattle.layout.specs.Fit.{fit}
 
@@ -35,12 +36,14 @@ core l u =
     let n : ℕ = length (u .objects) in
     ltb 0 n
     && all (versions-shaped (u .timestamp) (opens (u .readers))) (u .objects)
+    && all ordered (u .bounds)
+    && all₂ versions-inside (u .bounds) (u .objects)
     && all (λ r. leb r (u .timestamp)) (opens (u .readers))
     && distinct-keys (sents (u .pending))
     && all (key-unspent (u .lasts)) (sents (u .pending))
     && all (λ (s : Transaction). is-well-formed (l .operations) n (s .bytes)) (sents (u .pending))
     && in-order true (u .pending)
-    && all (λ (j : Pending). run-shaped n (size-of j) (j .run)) (u .pending)
+    && all (λ (j : Pending). run-shaped n (u .bounds) (size-of j) (j .run)) (u .pending)
     && (leb (u .timestamp) last-timestamp && all (λ s. ltb s (2 ^ 32)) (u .lasts))
 
 -- ---- what the encoding gives
@@ -62,6 +65,10 @@ all-fit-true (z ∷ g) h = rw (lt-ltb (mag z) (2 ^ 63) (h .0 .sfits), all-fit-tr
 value-true : (v : Version) → VersionFits v → fits (v .value) ≡ true
 unfolding fits
 value-true v g = lt-ltb (mag (v .value)) (2 ^ 63) (g .1 .sfits)
+
+bounds-true : (b : Bounds) → BoundsFit b → bounds-fit b ≡ true
+unfolding fits
+bounds-true b g = rw (lt-ltb (mag (b .lower)) (2 ^ 63) (g .0 .sfits), lt-ltb (mag (b .upper)) (2 ^ 63) (g .1 .sfits))
 
 run-true : (m : ℕ) (p : Run) → RunFits m p → run-encoded p ≡ true
 unfolding run-encoded
@@ -87,6 +94,8 @@ shaped-core l u g =
       le-leb (length (u .objects)) (l .objects) (g .objects .0),
       le-leb (length (u .pending)) (l .pending) few,
       all-true (λ (vs : List Version). leb (length vs) (suc (l .readers))) (ObjectFits (l .readers)) (λ vs h. le-leb (length vs) (suc (l .readers)) (h .0)) (u .objects) (g .objects .1),
+      eq-eqb (length (u .bounds)) (length (u .objects)) (g .bounds .0),
+      all-true bounds-fit BoundsFit bounds-true (u .bounds) (g .bounds .1),
       sequences (l .operations) (u .pending) (g .rows .1),
       eq-eqb (length (u .lasts)) clients (g .lasts .0),
       eq-eqb (length (u .readers)) (l .readers) (g .readers .0),

@@ -9,9 +9,9 @@ use lib.ListN.{replicate, length-replicate}
 use Rattle.cells.specs.Cells.{uncells}
 use Rattle.cells.specs.Uncells.{uncells-zeros}
 use Rattle.model.specs.declared.Limits.{Limits}
-use Rattle.model.specs.Calls.{by-values, plain, clients}
+use Rattle.model.specs.Calls.{by-values, plain, bounds-from, clients}
 use Rattle.model.specs.Start.{Version, start-of}
-use Rattle.model.specs.Replica.{Replica, with-timestamp, with-objects, opened}
+use Rattle.model.specs.Replica.{Replica, with-timestamp, with-objects, with-bounds, opened}
 use Rattle.model.specs.ListLaws.{All, map-replicate}
 use Rattle.layout.specs.Rows.{flat, table, blank}
 use Rattle.layout.specs.RowLaws.{blanks}
@@ -28,11 +28,12 @@ use Rattle.layout.specs.Holds.{Holds, HoldsBodies}
 abbrev pub empty : Limits → Replica
 empty l = opened l (start-of (plain [] 0))
 
--- what an opening by values sets: the timestamp and the objects
-pub opened-empty : (l : Limits) (n : ℕ) (vs : List ℤ) (t : ℕ) → opened l (start-of (by-values n vs t)) ≡ with-objects (map (λ v. record { stamp = t; value = v } ∷ []) vs) (with-timestamp t (empty l))
+-- what an opening by values sets: the timestamp, the objects and their bounds
+pub opened-empty : (l : Limits) (n : ℕ) (vs los his : List ℤ) (t : ℕ) → opened l (start-of (by-values n vs los his t))
+    ≡ with-bounds (bounds-from los his) (with-objects (map (λ v. record { stamp = t; value = v } ∷ []) vs) (with-timestamp t (empty l)))
 unfolding opened
-opened-empty l n vs t =
-    ap (λ (x : List (List Version)). with-objects x (with-timestamp t (empty l))) (map-map (λ (v : Version). v ∷ []) (λ v. record { stamp = t; value = v }) vs)
+opened-empty l n vs los his t =
+    ap (λ (x : List (List Version)). with-bounds (bounds-from los his) (with-objects x (with-timestamp t (empty l)))) (map-map (λ (v : Version). v ∷ []) (λ v. record { stamp = t; value = v }) vs)
 
 -- ---- all zero
 
@@ -48,6 +49,7 @@ empty-fits l =
       lasts = (length-replicate clients 0, all-zero Word 0 (omega arith) clients);
       readers = (length-replicate (l .readers) none, all-zero ReaderFits none (omega arith) (l .readers));
       objects = (omega arith, tt);
+      bounds = (refl, tt);
       rows = (omega arith, tt);
       tail = (refl, tt);
       bodies = tt;

@@ -16,6 +16,7 @@ use Rattle.arith.specs.Integer.{fits}
 use Rattle.operation.specs.Body.{is-well-formed}
 use Rattle.operation.specs.BodyLaws.{Formed, formed}
 use Rattle.execution.specs.Entries.{Entry}
+use Rattle.execution.specs.Bounds.{Bounds}
 use Rattle.execution.specs.ReadAgreement.{both}
 use Rattle.execution.specs.RunShape.{every, all-fit}
 use Rattle.model.specs.declared.Limits.{Limits}
@@ -25,13 +26,13 @@ use Rattle.model.specs.Serial.{Version}
 use Rattle.model.specs.Replica.{Pending, Replica, opens}
 use Rattle.model.specs.ListLaws.{All, or-right}
 use Rattle.model.specs.EarlyResults.{sents}
-use Rattle.model.specs.Shape.{VersionsShape, Unspent, Sets, size-of, RunEncoded, Shape}
+use Rattle.model.specs.Shape.{VersionsShape, Unspent, Sets, size-of, RunEncoded, bounds-fit, Shape}
 use Rattle.model.specs.ShapeRuns.{State, Standing, state-standing, in-order-states}
 use Rattle.model.specs.ShapeCheck.{shaped, shaped-says}
 use Rattle.layout.specs.Layout.{row-of, body-of, Areas, parse, print, lengths, laid, record-area, body-area}
 use Rattle.layout.specs.Offsets.{Sane, record-length, bodies-length}
 use Rattle.layout.specs.Lawful.{Word}
-use Rattle.layout.specs.Printable.{ValueFits, ReaderFits, VersionFits, EntryFits, RunFits, RowFits, ObjectFits, any-all, BodyFits, Printable}
+use Rattle.layout.specs.Printable.{ValueFits, BoundsFit, ReaderFits, VersionFits, EntryFits, RunFits, RowFits, ObjectFits, any-all, BodyFits, Printable}
 use Rattle.layout.specs.RoundTrips.{print-back, print-lengths, print-laid, print-parse}
 use Rattle.layout.specs.Holds.{Holds, HoldsBodies, laid-holds, laid-bodies}
 use Rattle.layout.specs.Fields.{sizes}
@@ -62,6 +63,9 @@ all-says q P h (x ∷ l) e = let (a, b) = both (q x) (all q l) e in (h x a, all-
 value : (z : ℤ) → fits z ≡ true → ValueFits z
 unfolding fits
 value z e = record { sfits = ltb-true (mag z) (2 ^ 63) e }
+
+bounds : (b : Bounds) → bounds-fit b ≡ true → BoundsFit b
+bounds b e = let (lo, hi) = both (fits (b .lower)) (fits (b .upper)) e in (value (b .lower) lo, value (b .upper) hi)
 
 values : (g : List ℤ) → all-fit g ≡ true → All ValueFits g
 values [] e = tt
@@ -133,6 +137,7 @@ module _ (l : Limits) (s : Sane l) (u : Replica) where
         lasts = (k .encoded .last-count, all-says (λ x. ltb x (2 ^ 32)) Word (λ x e. omega (arith, ltb-true x (2 ^ 32) e)) (u .lasts) (k .encoded .lasts));
         readers = (k .encoded .reader-count, readers (u .timestamp) (omega arith) (u .readers) (k .readers));
         objects = (k .few-objects, objects (u .timestamp) (l .readers) (opens (u .readers)) (omega arith) (u .objects) (k .few-versions) (k .versions) (k .encoded .values));
+        bounds = (k .bound-count, all-says bounds-fit BoundsFit bounds (u .bounds) (k .encoded .bounds));
         rows = (omega (arith, k .few-pending, length-map (u .pending) row-of), all-rows);
         tail = (refl, tt);
         bodies = bodies l s n (k .few-objects) (u .lasts) (u .pending) (k .bodies);

@@ -9,7 +9,7 @@ use Rattle.cells.specs.Cells.{cells, Below}
 use Rattle.cells.specs.CellLaws.{cells-uncells}
 use Rattle.model.specs.declared.Limits.{Limits}
 use Rattle.model.specs.Replica.{Replica}
-pub use Rattle.model.specs.Replica.{with-timestamp, with-objects, with-lasts, with-pending, with-readers}
+pub use Rattle.model.specs.Replica.{with-timestamp, with-objects, with-lasts, with-pending, with-readers, with-bounds}
 use Rattle.layout.specs.Layout.{record-cells, record-area, body-area, body-of, record-of, bodies-of, Areas, parse, print, lengths, laid}
 use Rattle.layout.specs.Offsets.{Sane, record-length, bodies-length}
 use Rattle.layout.specs.Lawful.{all-below}

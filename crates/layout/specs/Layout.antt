@@ -11,6 +11,7 @@ use mir.Syntax.{w64}
 use mir.Val.{toZ, ofZ}
 use Rattle.operation.specs.Body.{register-count, body-length}
 use Rattle.execution.specs.Entries.{Entry}
+use Rattle.execution.specs.Bounds.{Bounds, no-bounds}
 use Rattle.execution.specs.Run.{Run}
 use Rattle.model.specs.declared.Limits.{Limits}
 use Rattle.model.specs.Calls.{clients}
@@ -92,9 +93,13 @@ Row = (ℕ × ℕ) × Run
 abbrev pub row : ℕ → Codec Row
 row m = pair key (run m)
 
--- the front: timestamp, last numbers, readers, objects with their versions, rows
+-- an object as it lies in the area: its versions, and behind them its bounds
+abbrev pub Stored : Type 0
+Stored = List Version × Bounds
+
+-- the front: timestamp, last numbers, readers, objects, rows
 abbrev pub Front : Type 0
-Front = ℕ × (List ℕ × (List (Option ℕ) × (List (List Version) × List Row)))
+Front = ℕ × (List ℕ × (List (Option ℕ) × (List Stored × List Row)))
 
 -- the tail, behind the rows: a new table goes here, and no offset of the front moves; there is none so far
 abbrev pub Tail : Type 0
@@ -105,8 +110,20 @@ abbrev pub RecordArea : Type 0
 RecordArea = Front × Tail
 
 -- an object's versions, in a block as the crate `versions` defines it
-abbrev pub object : Limits → Codec (List Version)
-object l = record { size = width (l .readers); enc = block (l .readers); dec = block-versions; ok = framed (l .readers) }
+abbrev pub versions : Limits → Codec (List Version)
+versions l = record { size = width (l .readers); enc = block (l .readers); dec = block-versions; ok = framed (l .readers) }
+
+abbrev pub bounds-of : ℤ × ℤ → Bounds
+bounds-of x = record { lower = x .0; upper = x .1 }
+
+abbrev pub of-bounds : Bounds → ℤ × ℤ
+of-bounds b = (b .lower, b .upper)
+
+abbrev pub bounds : Codec Bounds
+bounds = via bounds-of of-bounds (λ x. true) (pair signed signed)
+
+abbrev pub object : Limits → Codec Stored
+object l = pair (versions l) bounds
 
 abbrev pub front : Limits → Codec Front
 front l =
@@ -146,8 +163,22 @@ abbrev pub all-from : List Row → List (List ℕ) → List Pending
 all-from [] bs = []
 all-from (r ∷ rs) bs = pending-from r (getD bs 0 []) ∷ all-from rs (drop 1 bs)
 
+-- each object's versions with its bounds, and apart
+abbrev pub stored-from : List (List Version) → List Bounds → List Stored
+stored-from [] bs = []
+stored-from (vs ∷ objs) bs = (vs, getD bs 0 no-bounds) ∷ stored-from objs (drop 1 bs)
+
+abbrev pub versions-of : Stored → List Version
+versions-of x = x .0
+
+abbrev pub bounds-in : Stored → Bounds
+bounds-in x = x .1
+
+abbrev pub stored-of : Replica → List Stored
+stored-of u = stored-from (u .objects) (u .bounds)
+
 abbrev pub front-of : Replica → Front
-front-of u = (u .timestamp, (u .lasts, (u .readers, (u .objects, map row-of (u .pending)))))
+front-of u = (u .timestamp, (u .lasts, (u .readers, (stored-of u, map row-of (u .pending)))))
 
 abbrev pub tail-of : Replica → Tail
 tail-of u = []
@@ -161,7 +192,8 @@ bodies-of u = map body-of (u .pending)
 abbrev pub replica-from : RecordArea → List (List ℕ) → Replica
 replica-from r bs =
     let f : Front = r .0 in
-    record { timestamp = f .0; objects = f .1 .1 .1 .0; lasts = f .1 .0; pending = all-from (f .1 .1 .1 .1) bs; readers = f .1 .1 .0 }
+    let os : List Stored = f .1 .1 .1 .0 in
+    record { timestamp = f .0; objects = map versions-of os; lasts = f .1 .0; pending = all-from (f .1 .1 .1 .1) bs; readers = f .1 .1 .0; bounds = map bounds-in os }
 
 -- ---- parse and print
 

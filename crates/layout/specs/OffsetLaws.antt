@@ -16,26 +16,26 @@ pub small-sane : Sane small
 unfolding small
 small-sane = record { objects = omega arith; pending = omega arith; readers = omega arith; operations = omega arith }
 
--- document 01 and the plan: 3,514 cells and 32 places of 177 bytes
-pub standard-lengths : (record-length standard ≡ 28112) × (row-at standard (standard .pending) ≡ 3514) × (bodies-length standard ≡ 5664) × (body-width standard ≡ 177)
+-- 3,770 cells, two for each object's bounds among them, and 32 places of 177 bytes
+pub standard-lengths : (record-length standard ≡ 30160) × (row-at standard (standard .pending) ≡ 3770) × (bodies-length standard ≡ 5664) × (body-width standard ≡ 177)
 unfolding standard
 standard-lengths = (refl, refl, refl, refl)
 
-pub small-lengths : (record-length small ≡ 2664) × (bodies-length small ≡ 712)
+pub small-lengths : (record-length small ≡ 2920) × (bodies-length small ≡ 712)
 unfolding small
 small-lengths = (refl, refl)
 
-pub standard-offsets : (object-at standard 0 ≡ 25) × (object-width standard ≡ 17) × (pending-at standard ≡ 2201) × (row-at standard 0 ≡ 2202) × (row-width standard ≡ 41)
+pub standard-offsets : (object-at standard 0 ≡ 25) × (object-width standard ≡ 19) × (pending-at standard ≡ 2457) × (row-at standard 0 ≡ 2458) × (row-width standard ≡ 41)
 unfolding standard
 standard-offsets = (refl, refl, refl, refl, refl)
 
 module _ (l : Limits) (s : Sane l) where
   -- ---- products stay small
 
-  object-product : (i : ℕ) → i ≤ l .objects → (i * object-width l ≤ l .objects * object-width l) × (l .objects * object-width l ≤ 65536 * 131075)
+  object-product : (i : ℕ) → i ≤ l .objects → (i * object-width l ≤ l .objects * object-width l) × (l .objects * object-width l ≤ 65536 * 131077)
   object-product i h =
       let r = s .readers in
-      let w : object-width l ≤ 131075 = omega arith in
+      let w : object-width l ≤ 131077 = omega arith in
       (mul-le-mul h (omega arith), mul-le-mul (s .objects) w)
 
   row-product : (i : ℕ) → i ≤ l .pending → (i * row-width l ≤ l .pending * row-width l) × (l .pending * row-width l ≤ 65536 * 131081)

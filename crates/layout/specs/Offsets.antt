@@ -4,7 +4,7 @@ use mathlib.Core.Path.{_≡_}
 use Prim.Native.Nat.{ℕ, _+_, _*_, _^_, _≤_}
 use Rattle.operation.specs.Body.{body-length}
 use Rattle.model.specs.declared.Limits.{Limits}
-use Rattle.versions.specs.Block.{width}
+use Rattle.versions.specs.Block.{width, object-cells}
 
 -- limits for which no offset overflows, and every count fits in a cell
 pub record Sane (l : Limits) : Type 0 where
@@ -26,7 +26,11 @@ abbrev pub size-at : Limits → ℕ
 size-at l = reader-at (l .readers)
 
 abbrev pub object-width : Limits → ℕ
-object-width l = width (l .readers)
+object-width l = object-cells (l .readers)
+
+-- the cells of its versions, with the number of them
+abbrev pub versions-width : Limits → ℕ
+versions-width l = width (l .readers)
 
 abbrev pub object-at : Limits → ℕ → ℕ
 object-at l i = 1 + size-at l + i * object-width l
@@ -53,13 +57,19 @@ tail-at l = row-at l (l .pending)
 abbrev pub record-length : Limits → ℕ
 record-length l = tail-at l * 8
 
--- ---- an object's block
+-- ---- an object: the block of its versions, then its bounds
 
 abbrev pub stamp-at : ℕ → ℕ
 stamp-at j = 1 + j * 2
 
 abbrev pub value-at : ℕ → ℕ
 value-at j = 2 + j * 2
+
+abbrev pub lower-at : Limits → ℕ
+lower-at l = versions-width l
+
+abbrev pub upper-at : Limits → ℕ
+upper-at l = versions-width l + 1
 
 -- ---- a row: key, program counter, outcome, registers, number of reads, number of reads and writes, entries
 

@@ -1,19 +1,20 @@
 -- Which values each part of the areas can hold, and the laws of the two areas, by composition. Assumes nothing.
-use mathlib.Core.Path.{_≡_, refl}
+use mathlib.Core.Path.{_≡_, refl, ap, _∙_}
 use mathlib.Core.Bool.{true}
 use mathlib.Core.Option.{Option, none, some}
 use mathlib.Core.List.{List, [], _∷_, _++_, map}
 use Prim.Native.Nat.{ℕ, zero, suc, _+_, _*_, _/_, _%_, _^_, _≤_, _<_}
 use native.Mathlib.Omega.{arith}
 use lib.IntN.{ℤ, pos}
-use lib.ListN.{length, replicate, length-append, length-drop, length-map, length-replicate, take-append-drop}
-use lib.Seq.{take-at, drop-at, length-take-le}
+use lib.ListN.{length, getD, set, drop, replicate, length-append, length-drop, length-map, length-replicate, take-append-drop}
+use lib.Seq.{getD-drop, take-at, drop-at, length-take-le}
 use borrow.Author.Tests.{le-leb, leb-true}
 use mir.Syntax.{w64}
 use mir.Val.{toZ, ofZ, SFits}
 use mir.Facts.{toZ-ofZ, ofZ-toZ, sfits-toZ}
 use Rattle.operation.specs.Body.{register-count, body-length}
 use Rattle.execution.specs.Entries.{Entry}
+use Rattle.execution.specs.Bounds.{Bounds, no-bounds}
 use Rattle.execution.specs.Run.{Run, start}
 use Rattle.model.specs.declared.Limits.{Limits}
 use Rattle.model.specs.Calls.{clients}
@@ -24,7 +25,7 @@ use Rattle.versions.specs.Block.{block-versions, block, Small}
 use Rattle.versions.specs.Round.{count-few, small-block-versions, length-block-versions, versions-of-block, length-block, below-block, framed-block, block-of-versions}
 use Rattle.layout.specs.Codec.{Codec, counted}
 use Rattle.layout.specs.Layout.{signed, reader, reader-of, of-reader, key-of, of-key, key, entry-of, of-entry, entry, parted, joined, within, two, run-of, of-run, run}
-use Rattle.layout.specs.Layout.{Row, row, Front, Tail, RecordArea, object, front, tail, record-cells, record-area, body, body-area, row-of, body-of, tail-of, record-of, bodies-of}
+use Rattle.layout.specs.Layout.{Row, row, Stored, Front, Tail, RecordArea, versions, bounds-of, of-bounds, bounds, object, stored-from, stored-of, front, tail, record-cells, record-area, body, body-area, row-of, body-of, tail-of, record-of, bodies-of}
 use Rattle.layout.specs.Offsets.{Sane}
 use Rattle.layout.specs.Lawful.{Lawful, lawful-cell, lawful-pair, lawful-via, lawful-iso, lawful-rows, lawful-counted, lawful-padded, lawful-bytes, Padded, Byte, Word, below-all, all-below}
 
@@ -73,7 +74,13 @@ lawful-key =
       onto = λ n h e. (omega arith, omega arith);
     })
 
--- ---- versions and entries
+-- ---- bounds, versions and entries
+
+abbrev pub BoundsFit : Bounds → Type 0
+BoundsFit b = ValueFits (b .lower) × ValueFits (b .upper)
+
+pub lawful-bounds : Lawful Word bounds BoundsFit
+lawful-bounds = lawful-iso (lawful-pair lawful-signed lawful-signed) bounds-of of-bounds (λ b. refl) (λ x. refl)
 
 abbrev pub VersionFits : Version → Type 0
 VersionFits v = Word (v .stamp) × ValueFits (v .value)
@@ -156,8 +163,11 @@ ReadersFit n xs = (length xs ≡ n) × All ReaderFits xs
 abbrev pub ObjectFits : ℕ → List Version → Type 0
 ObjectFits n vs = (length vs ≤ suc n) × All VersionFits vs
 
-abbrev pub ObjectsFit : Limits → List (List Version) → Type 0
-ObjectsFit l xs = (length xs ≤ l .objects) × All (ObjectFits (l .readers)) xs
+abbrev pub StoredFits : ℕ → Stored → Type 0
+StoredFits n x = ObjectFits n (x .0) × BoundsFit (x .1)
+
+abbrev pub ObjectsFit : Limits → List Stored → Type 0
+ObjectsFit l xs = (length xs ≤ l .objects) × All (StoredFits (l .readers)) xs
 
 abbrev pub RowsFit : Limits → List Row → Type 0
 RowsFit l xs = (length xs ≤ l .pending) × All (RowFits (l .operations)) xs
@@ -188,8 +198,8 @@ module _ (l : Limits) (s : Sane l) where
   lawful-rows-of =
       lawful-counted (lawful-row (l .operations) (omega (arith, s .operations))) (omega arith) (l .pending) (λ n h. omega (arith, s .pending))
 
-  pub lawful-object : Lawful Word (object l) (ObjectFits (l .readers))
-  lawful-object =
+  pub lawful-versions : Lawful Word (versions l) (ObjectFits (l .readers))
+  lawful-versions =
       let n = l .readers in
       record {
         len = λ vs h. length-block n vs (h .0);
@@ -199,6 +209,9 @@ module _ (l : Limits) (s : Sane l) where
         forth = λ b h k e. block-of-versions n b h (all-below (2 ^ 64) b (omega arith) k) e;
         good = λ b h k e. (omega (arith, length-block-versions b, count-few n b e), small-fits (block-versions b) (small-block-versions b (all-below (2 ^ 64) b (omega arith) k)));
       }
+
+  pub lawful-object : Lawful Word (object l) (StoredFits (l .readers))
+  lawful-object = lawful-pair lawful-versions lawful-bounds
 
   pub lawful-objects : Lawful Word (counted (l .objects) (object l)) (ObjectsFit l)
   lawful-objects = lawful-counted lawful-object (omega arith) (l .objects) (λ n h. omega (arith, s .objects))
@@ -233,7 +246,8 @@ pub record Printable (l : Limits) (u : Replica) : Type 0 where
   pub timestamp : Word (u .timestamp)
   pub lasts : LastsFit (u .lasts)
   pub readers : ReadersFit (l .readers) (u .readers)
-  pub objects : ObjectsFit l (u .objects)
+  pub objects : (length (u .objects) ≤ l .objects) × All (ObjectFits (l .readers)) (u .objects)
+  pub bounds : (length (u .bounds) ≡ length (u .objects)) × All BoundsFit (u .bounds)
   pub rows : RowsFit l (map row-of (u .pending))
   pub tail : TailFits l (tail-of u)
   pub bodies : All (BodyFits (l .operations)) (map body-of (u .pending))
@@ -241,10 +255,56 @@ pub record Printable (l : Limits) (u : Replica) : Type 0 where
 pub few-pending : (l : Limits) (u : Replica) → Printable l u → length (u .pending) ≤ l .pending
 few-pending l u g = omega (arith, g .rows .0, length-map (u .pending) row-of)
 
-pub record-fits : (l : Limits) (u : Replica) → Printable l u → RecordFits l (record-of u)
-record-fits l u g = ((g .timestamp, (g .lasts, (g .readers, (g .objects, g .rows)))), g .tail)
+-- versions and bounds, side by side and apart
+pub length-stored : (objs : List (List Version)) (bs : List Bounds) → length (stored-from objs bs) ≡ length objs
+length-stored [] bs = refl
+length-stored (vs ∷ objs) bs = ap suc (length-stored objs (drop 1 bs))
 
-pub fits-record : (l : Limits) (u : Replica) → RecordFits l (record-of u) → All (BodyFits (l .operations)) (bodies-of u) → Printable l u
-fits-record l u r b =
+module _ (n : ℕ) where
+  pub all-stored : (objs : List (List Version)) (bs : List Bounds) → length bs ≡ length objs → All (ObjectFits n) objs → All BoundsFit bs → All (StoredFits n) (stored-from objs bs)
+  all-stored [] bs e g f = tt
+  all-stored (vs ∷ objs) [] e g f = absurd (omega arith)
+  all-stored (vs ∷ objs) (b ∷ bs) e g f = ((g .0, f .0), all-stored objs bs (omega arith) (g .1) (f .1))
+
+  stored-apart : (objs : List (List Version)) (bs : List Bounds) → length bs ≡ length objs → All (StoredFits n) (stored-from objs bs) → All (ObjectFits n) objs × All BoundsFit bs
+  stored-apart [] [] e g = (tt, tt)
+  stored-apart [] (b ∷ bs) e g = absurd (omega arith)
+  stored-apart (vs ∷ objs) [] e g = absurd (omega arith)
+  stored-apart (vs ∷ objs) (b ∷ bs) e g =
+      let k = stored-apart objs bs (omega arith) (g .1) in ((g .0 .0, k .0), (g .0 .1, k .1))
+
+pub stored-at : (objs : List (List Version)) (bs : List Bounds) (i : ℕ) → i < length objs → (d : Stored) → getD (stored-from objs bs) i d ≡ (getD objs i [], getD bs i no-bounds)
+stored-at [] bs i h d = absurd (omega arith)
+stored-at (vs ∷ objs) bs zero h d = refl
+stored-at (vs ∷ objs) bs (suc i) h d =
+    let e : 1 + i ≡ suc i = omega arith in
+    stored-at objs (drop 1 bs) i (omega arith) d ∙ ap (λ (b : Bounds). (getD objs i [], b)) (getD-drop 1 bs i no-bounds ∙ ap (λ (k : ℕ). getD bs k no-bounds) e)
+
+-- one object's versions anew
+pub stored-set : (objs : List (List Version)) (bs : List Bounds) (i : ℕ) (vs : List Version) (d : Stored) → set (stored-from objs bs) i (vs, getD (stored-from objs bs) i d .1) ≡ stored-from (set objs i vs) bs
+stored-set [] bs i vs d = refl
+stored-set (x ∷ objs) bs zero vs d = refl
+stored-set (x ∷ objs) bs (suc i) vs d = ap ((x, getD bs 0 no-bounds) ∷_) (stored-set objs (drop 1 bs) i vs d)
+
+pub stored-fit : (l : Limits) (u : Replica) → Printable l u → ObjectsFit l (stored-of u)
+stored-fit l u g =
+    (omega (arith, g .objects .0, length-stored (u .objects) (u .bounds)), all-stored (l .readers) (u .objects) (u .bounds) (g .bounds .0) (g .objects .1) (g .bounds .1))
+
+pub record-fits : (l : Limits) (u : Replica) → Printable l u → RecordFits l (record-of u)
+record-fits l u g = ((g .timestamp, (g .lasts, (g .readers, (stored-fit l u g, g .rows)))), g .tail)
+
+pub fits-record : (l : Limits) (u : Replica) → length (u .bounds) ≡ length (u .objects) → RecordFits l (record-of u) → All (BodyFits (l .operations)) (bodies-of u) → Printable l u
+fits-record l u e r b =
     let f = r .0 in
-    record { timestamp = f .0; lasts = f .1 .0; readers = f .1 .1 .0; objects = f .1 .1 .1 .0; rows = f .1 .1 .1 .1; tail = r .1; bodies = b }
+    let o = f .1 .1 .1 .0 in
+    let k = stored-apart (l .readers) (u .objects) (u .bounds) e (o .1) in
+    record {
+      timestamp = f .0;
+      lasts = f .1 .0;
+      readers = f .1 .1 .0;
+      objects = (omega (arith, o .0, length-stored (u .objects) (u .bounds)), k .0);
+      bounds = (e, k .1);
+      rows = f .1 .1 .1 .1;
+      tail = r .1;
+      bodies = b;
+    }

@@ -7,8 +7,11 @@ use native.Mathlib.Omega.{arith}
 use native.Mathlib.Nat.{mul-assoc}
 use lib.ListN.{length, drop, getD, length-map, List·getD-map}
 use borrow.Rule.Slice.PartMut.{midOf}
+use mir.Syntax.{w64}
+use mir.Val.{ofZ}
 use Rattle.cells.specs.Cells.{cells, uncells}
 use Rattle.cells.specs.Uncells.{uncells-part}
+use Rattle.execution.specs.Bounds.{no-bounds}
 use Rattle.model.specs.declared.Limits.{Limits}
 use Rattle.model.specs.Calls.{clients, last-timestamp}
 use Rattle.model.specs.Replica.{Pending, Replica}
@@ -17,15 +20,15 @@ use Rattle.model.specs.Shape.{Shape}
 use Rattle.layout.specs.Rows.{flat, table}
 use Rattle.layout.specs.RowLaws.{table-full}
 use Rattle.layout.specs.Codec.{Codec, counted, bytewise}
-use Rattle.layout.specs.Layout.{of-reader, Row, row, RecordArea, object, record-cells, row-of, record-of}
-use Rattle.layout.specs.Offsets.{Sane, last-at, reader-at, size-at, object-width, object-at, pending-at, row-width, row-at}
-use Rattle.layout.specs.Printable.{ObjectsFit, RowsFit, RecordFits, record-fits, few-pending}
+use Rattle.layout.specs.Layout.{of-reader, Row, row, Stored, RecordArea, versions, object, record-cells, stored-of, row-of, record-of}
+use Rattle.layout.specs.Offsets.{Sane, last-at, reader-at, size-at, object-width, versions-width, lower-at, upper-at, object-at, pending-at, row-width, row-at}
+use Rattle.layout.specs.Printable.{ObjectsFit, RowsFit, RecordFits, length-stored, stored-at, stored-fit, record-fits, few-pending}
 use Rattle.layout.specs.Lawful.{Sized}
 use Rattle.layout.specs.Field.{Field, cell-read, in-bytes}
 use Rattle.layout.specs.TableChanges.{bytes-table, field-places}
 use Rattle.layout.specs.RowCells.{array-cells}
-use Rattle.layout.specs.Fields.{With, ObjectThere, RowThere, object-there, row-there, sized-object, sized-objects, sized-rows, timestamp-field, readers-field, objects-field, rows-field, last-field, reader-field, object-field}
-use Rattle.layout.specs.Fields.{row-field, sizes, table-offsets, last-offset, reader-offset, object-offset, row-offset}
+use Rattle.layout.specs.Fields.{With, ObjectThere, RowThere, object-there, row-there, sized-object, sized-objects, sized-rows, timestamp-field, readers-field, objects-field, rows-field, last-field, reader-field, versions-field, bounds-field}
+use Rattle.layout.specs.Fields.{row-field, sizes, table-offsets, last-offset, reader-offset, versions-offset, bounds-offset, row-offset}
 use Rattle.layout.specs.Holds.{Holds, holds-cells, holds-long}
 use Rattle.layout.specs.OffsetLaws.{object-cell}
 
@@ -79,6 +82,7 @@ module _ (l : Limits) (s : Sane l) (b : List ℕ) (u : Replica) (h : Holds l b u
   pub get-size : getD (cells b) (size-at l) 0 ≡ length (u .objects)
   get-size =
       get-field (objects-field l (sized-objects l s) (sized-rows l s)) known 0 (omega arith) (size-at l) (omega (arith, table-offsets l s .0))
+      ∙ length-stored (u .objects) (u .bounds)
 
   pub get-pending : getD (cells b) (pending-at l) 0 ≡ length (u .pending)
   get-pending =
@@ -92,7 +96,7 @@ module _ (l : Limits) (s : Sane l) (b : List ℕ) (u : Replica) (h : Holds l b u
       field-part (readers-field l (sized-objects l s) (sized-rows l s)) known (reader-at 0) (l .readers) refl (omega arith)
       ∙ ap uncells (array-cells of-reader (l .readers) (u .readers) (h .fits .readers .0))
 
-  -- ---- object i: its block, and a cell of it
+  -- ---- object i: the block of its versions, a cell of it, and its bounds
 
   module _ (i : ℕ) (k : i < length (u .objects)) where
     object-low : i < l .objects
@@ -101,22 +105,37 @@ module _ (l : Limits) (s : Sane l) (b : List ℕ) (u : Replica) (h : Holds l b u
     object-known : With l (ObjectThere l i) (RowsFit l) (record-of u)
     object-known = object-there l u (h .fits) i k
 
-    pub object-part : midOf (object-at l i * 8) (object-width l * 8) b ≡ uncells (object l .enc (getD (u .objects) i []))
+    the-object : getD (stored-of u) i ([], no-bounds) ≡ (getD (u .objects) i [], getD (u .bounds) i no-bounds)
+    the-object = stored-at (u .objects) (u .bounds) i k ([], no-bounds)
+
+    pub object-part : midOf (object-at l i * 8) (versions-width l * 8) b ≡ uncells (versions l .enc (getD (u .objects) i []))
     object-part =
-        field-part (object-field l s i object-low) object-known (object-at l i) (object-width l) (object-offset l s i object-low) (sizes l .0)
+        field-part (versions-field l s i object-low) object-known (object-at l i) (versions-width l) (versions-offset l s i object-low) refl
+        ∙ ap (λ (x : Stored). uncells (versions l .enc (x .0))) the-object
 
-    pub get-object : (j : ℕ) → j < object-width l → getD (cells b) (object-at l i + j) 0 ≡ getD (object l .enc (getD (u .objects) i [])) j 0
+    pub get-object : (j : ℕ) → j < versions-width l → getD (cells b) (object-at l i + j) 0 ≡ getD (versions l .enc (getD (u .objects) i [])) j 0
     get-object j low =
-        get-field (object-field l s i object-low) object-known j (omega (arith, sizes l .0)) (object-at l i + j) (omega (arith, object-offset l s i object-low))
+        get-field (versions-field l s i object-low) object-known j low (object-at l i + j) (omega (arith, versions-offset l s i object-low))
+        ∙ ap (λ (x : Stored). getD (versions l .enc (x .0)) j 0) the-object
 
-  -- the blocks of all objects
-  pub objects-part : midOf (object-at l 0 * 8) (length (u .objects) * (object-width l * 8)) b ≡ flat (map (bytewise (object l) .enc) (u .objects))
+    pub get-lower : getD (cells b) (object-at l i + lower-at l) 0 ≡ ofZ w64 (getD (u .bounds) i no-bounds .lower)
+    get-lower =
+        get-field (bounds-field l s i object-low) object-known 0 (omega arith) (object-at l i + lower-at l) (omega (arith, bounds-offset l s i object-low))
+        ∙ ap (λ (x : Stored). ofZ w64 (x .1 .lower)) the-object
+
+    pub get-upper : getD (cells b) (object-at l i + upper-at l) 0 ≡ ofZ w64 (getD (u .bounds) i no-bounds .upper)
+    get-upper =
+        get-field (bounds-field l s i object-low) object-known 1 (omega arith) (object-at l i + upper-at l) (omega (arith, bounds-offset l s i object-low))
+        ∙ ap (λ (x : Stored). ofZ w64 (x .1 .upper)) the-object
+
+  -- the cells of all objects
+  pub objects-part : midOf (object-at l 0 * 8) (length (u .objects) * (object-width l * 8)) b ≡ flat (map (bytewise (object l) .enc) (stored-of u))
   objects-part =
-      let n = length (u .objects) in
+      let n = length (stored-of u) in
       let z : n - 0 ≡ n = omega arith in
-      ap (λ (j : ℕ). midOf (object-at l 0 * 8) (j * (object-width l * 8)) b) (sym z)
-      ∙ table-part (sized-object l s) (objects-field l (sized-objects l s) (sized-rows l s)) known 0 n (omega arith) (omega arith) (h .fits .objects .0) (object-at l 0) (object-width l) (omega (arith, table-offsets l s .0)) (sizes l .0)
-      ∙ table-full (object-width l * 8) (map (bytewise (object l) .enc) (u .objects)) (n - 0) (length-map (u .objects) (bytewise (object l) .enc) ∙ sym z)
+      ap (λ (j : ℕ). midOf (object-at l 0 * 8) (j * (object-width l * 8)) b) (sym (z ∙ length-stored (u .objects) (u .bounds)))
+      ∙ table-part (sized-object l s) (objects-field l (sized-objects l s) (sized-rows l s)) known 0 n (omega arith) (omega arith) (stored-fit l u (h .fits) .0) (object-at l 0) (object-width l) (omega (arith, table-offsets l s .0)) (sizes l .0)
+      ∙ table-full (object-width l * 8) (map (bytewise (object l) .enc) (stored-of u)) (n - 0) (length-map (stored-of u) (bytewise (object l) .enc) ∙ sym z)
 
   -- ---- row i: its cells as a part, and one of them
 

@@ -8,10 +8,12 @@ use lib.ListN.{length, drop, length-map}
 use borrow.Author.Tests.{eqb-true, eq-eqb}
 use Rattle.cells.specs.Cells.{Below}
 use Rattle.execution.specs.ReadAgreement.{both}
+use Rattle.execution.specs.Bounds.{Bounds}
 use Rattle.model.specs.declared.Limits.{Limits}
+use Rattle.model.specs.Serial.{Version}
 use Rattle.model.specs.Replica.{Pending, Replica}
 use Rattle.model.specs.ListLaws.{All}
-use Rattle.layout.specs.Layout.{Row, Tail, RecordArea, record-area, body-area, row-of, body-of, all-from, record-of, bodies-of, replica-from, Areas, row-count, parse, print, lengths, laid}
+use Rattle.layout.specs.Layout.{Row, Stored, Tail, RecordArea, record-area, body-area, stored-from, versions-of, bounds-in, row-of, body-of, all-from, record-of, bodies-of, replica-from, Areas, row-count, parse, print, lengths, laid}
 use Rattle.layout.specs.Offsets.{Sane}
 use Rattle.layout.specs.Lawful.{Byte, below-all}
 use Rattle.layout.specs.Printable.{RecordFits, BodyFits, any-all, lawful-record, lawful-bodies, Printable, record-fits, fits-record, few-pending}
@@ -31,6 +33,22 @@ bodies-back [] [] h = refl
 bodies-back [] (b ∷ bs) h = absurd (omega arith)
 bodies-back (r ∷ rs) [] h = absurd (omega arith)
 bodies-back (r ∷ rs) (b ∷ bs) h = ap (b ∷_) (bodies-back rs bs (omega arith))
+
+-- versions and bounds, joined and parted
+
+versions-back : (objs : List (List Version)) (bs : List Bounds) → map versions-of (stored-from objs bs) ≡ objs
+versions-back [] bs = refl
+versions-back (vs ∷ objs) bs = ap (vs ∷_) (versions-back objs (drop 1 bs))
+
+bounds-back : (objs : List (List Version)) (bs : List Bounds) → length bs ≡ length objs → map bounds-in (stored-from objs bs) ≡ bs
+bounds-back [] [] e = refl
+bounds-back [] (b ∷ bs) e = absurd (omega arith)
+bounds-back (vs ∷ objs) [] e = absurd (omega arith)
+bounds-back (vs ∷ objs) (b ∷ bs) e = ap (b ∷_) (bounds-back objs bs (omega arith))
+
+stored-back : (os : List Stored) → stored-from (map versions-of os) (map bounds-in os) ≡ os
+stored-back [] = refl
+stored-back (x ∷ os) = ap (x ∷_) (stored-back os)
 
 -- the tail of every record area, which has no cell
 no-tail : (t : Tail) → length t ≡ 0 → [] ≡ t
@@ -60,7 +78,7 @@ module _ (l : Limits) (s : Sane l) where
         ap (λ (r : RecordArea). replica-from r (body-area l (row-count r) .dec b)) record-back
         ∙ ap (λ (k : ℕ). replica-from (record-of u) (body-area l k .dec b)) count
         ∙ ap (replica-from (record-of u)) (lawful-bodies l s (length (u .pending)) few .back (bodies-of u) in-use)
-        ∙ (λ i. record { timestamp = u .timestamp; objects = u .objects; lasts = u .lasts; pending = pending-back (u .pending) i; readers = u .readers })
+        ∙ (λ i. record { timestamp = u .timestamp; objects = versions-back (u .objects) (u .bounds) i; lasts = u .lasts; pending = pending-back (u .pending) i; readers = u .readers; bounds = bounds-back (u .objects) (u .bounds) (g .bounds .0) i })
 
     pub print-lengths : lengths l (print l u) ≡ true
     unfolding lengths print
@@ -108,7 +126,7 @@ module _ (l : Limits) (s : Sane l) where
         let f = R .0 in
         let rs = rows-back (f .1 .1 .1 .1) (body-area l (row-count R) .dec (a .1)) in
         let t = no-tail (R .1) (good-record .1 .0) in
-        λ i. ((f .0, (f .1 .0, (f .1 .1 .0, (f .1 .1 .1 .0, rs i)))), t i)
+        λ i. ((f .0, (f .1 .0, (f .1 .1 .0, (stored-back (f .1 .1 .1 .0) i, rs i)))), t i)
 
     bodies-same : bodies-of (parse l a) ≡ body-area l (row-count R) .dec (a .1)
     unfolding parse
@@ -125,6 +143,10 @@ module _ (l : Limits) (s : Sane l) where
         ∙ lawful-bodies l s (row-count R) places .forth (a .1) (area-lengths .1) (any-all (a .1)) (okays .1) in
         λ i. (p i, q i)
 
+    parsed-bounds : length (parse l a .bounds) ≡ length (parse l a .objects)
+    unfolding parse
+    parsed-bounds = length-map (R .0 .1 .1 .1 .0) bounds-in ∙ sym (length-map (R .0 .1 .1 .1 .0) versions-of)
+
     pub parse-fits : Printable l (parse l a)
     parse-fits =
-        fits-record l (parse l a) (subst (RecordFits l) (sym record-same) good-record) (subst (All (BodyFits (l .operations))) (sym bodies-same) (good-bodies .1))
+        fits-record l (parse l a) parsed-bounds (subst (RecordFits l) (sym record-same) good-record) (subst (All (BodyFits (l .operations))) (sym bodies-same) (good-bodies .1))

@@ -19,7 +19,8 @@ use Rattle.versions.specs.Block as versions
 use Rattle.layout.specs.Rows.{flat, table, blank}
 use Rattle.layout.specs.RowLaws.{blanks, table-full, row-read}
 use Rattle.layout.specs.Codec.{Codec}
-use Rattle.layout.specs.Layout.{of-key, entry, Row, row, object}
+use Rattle.layout.specs.Layout.{of-key, entry, Row, row}
+use Rattle.layout.specs.Layout as layout
 use Rattle.layout.specs.Offsets.{row-cells, value-at, register-at, reads-at, entries-at, entry-at}
 use Rattle.layout.specs.Lawful.{sized, uniform, Lawful}
 use Rattle.layout.specs.Printable.{EntryFits, RowFits, lawful-entry}
@@ -53,7 +54,7 @@ flat-value (v ∷ vs) ts zero h d = refl
 flat-value (v ∷ vs) ts (suc j) h d =
     let e : 1 + suc j * 2 ≡ suc (suc (1 + j * 2)) = omega arith in rw e (flat-value vs ts j (le-of-suc-le-suc h) d)
 
-pub block-value : (l : Limits) (vs : List Version) (j : ℕ) → j < length vs → (d : Version) → getD (object l .enc vs) (value-at j) 0 ≡ ofZ w64 (getD vs j d .value)
+pub block-value : (l : Limits) (vs : List Version) (j : ℕ) → j < length vs → (d : Version) → getD (layout.versions l .enc vs) (value-at j) 0 ≡ ofZ w64 (getD vs j d .value)
 unfolding versions.block
 block-value l vs j h d =
     let e : value-at j ≡ suc (1 + j * 2) = omega arith in

@@ -16,11 +16,10 @@ use Rattle.cells.specs.Zeros.{zeros}
 use Rattle.model.specs.declared.Limits.{Limits}
 use Rattle.model.specs.Lists.{all}
 use Rattle.model.specs.Calls.{clients}
-use Rattle.model.specs.Serial.{Version}
 use Rattle.layout.specs.Rows.{chunks}
 use Rattle.layout.specs.RowLaws.{length-chunks}
 use Rattle.layout.specs.Codec.{Codec, cell, array, counted}
-use Rattle.layout.specs.Layout.{reader-of, reader, Row, row, object, front, tail, record-cells, body, body-area, all-from, Areas, row-count, parse, laid}
+use Rattle.layout.specs.Layout.{reader-of, reader, Row, row, Stored, object, versions-of, bounds-in, front, tail, record-cells, body, body-area, all-from, Areas, row-count, parse, laid}
 use Rattle.layout.specs.Offsets.{last-at, reader-at, size-at, object-width, object-at, pending-at, row-width, row-at, tail-at, record-length, body-width, body-at}
 use Rattle.layout.specs.Field.{drop-take}
 use Rattle.layout.specs.Fields.{sizes}
@@ -112,7 +111,7 @@ array-ok c n b h e =
 -- ---- the record area, as cells
 
 module _ (l : Limits) (w : List ℕ) (e : length w ≡ record-cells l .size) where
-  abbrev object-table : Codec (List (List Version))
+  abbrev object-table : Codec (List Stored)
   object-table = counted (l .objects) (object l)
 
   abbrev row-table : Codec (List Row)
@@ -269,9 +268,13 @@ module _ (l : Limits) (a : Areas) (e : length (a .0) ≡ record-length l) where
   unfolding parse
   parsed-readers = readers-in l w cells-whole
 
-  pub parsed-objects : size-in l w ≤ l .objects → parse l a .objects ≡ map (object l .dec) (blocks-in l w)
+  pub parsed-objects : size-in l w ≤ l .objects → parse l a .objects ≡ map versions-of (map (object l .dec) (blocks-in l w))
   unfolding parse
-  parsed-objects = objects-in l w cells-whole
+  parsed-objects h = ap (map versions-of) (objects-in l w cells-whole h)
+
+  pub parsed-bounds : size-in l w ≤ l .objects → parse l a .bounds ≡ map bounds-in (map (object l .dec) (blocks-in l w))
+  unfolding parse
+  parsed-bounds h = ap (map bounds-in) (objects-in l w cells-whole h)
 
   pub parsed-pending : pending-in l w ≤ l .pending → parse l a .pending ≡ all-from (map (row (l .operations) .dec) (rows-in l w)) (map (body (l .operations) .dec) bodies-in)
   unfolding parse

@@ -10,6 +10,7 @@ use lib.Seq.{length-take-le}
 use borrow.Rule.Slice.PartMut.{putMid, same-len-mid}
 use Rattle.cells.specs.Cells.{uncells, cell-put, Put}
 use Rattle.cells.specs.Uncells.{uncells-back, uncells-set}
+use Rattle.execution.specs.Bounds.{Bounds, no-bounds}
 use Rattle.model.specs.declared.Limits.{Limits}
 use Rattle.model.specs.Calls.{clients}
 use Rattle.model.specs.Serial.{Version}
@@ -18,14 +19,14 @@ use Rattle.model.specs.ListLaws.{All, all-join, all-take, all-set}
 use Rattle.layout.specs.Rows.{flat, table}
 use Rattle.layout.specs.RowLaws.{split-rows, table-length, table-full}
 use Rattle.layout.specs.Codec.{Codec, counted, bytewise}
-use Rattle.layout.specs.Layout.{of-reader, RecordArea, object, record-cells, record-area, record-of}
-use Rattle.layout.specs.Offsets.{Sane, last-at, reader-at, size-at, object-width, object-at}
+use Rattle.layout.specs.Layout.{of-reader, Stored, RecordArea, versions, object, record-cells, record-area, stored-from, stored-of, row-of, tail-of, record-of}
+use Rattle.layout.specs.Offsets.{Sane, last-at, reader-at, size-at, object-width, versions-width, object-at}
 use Rattle.layout.specs.Lawful.{Sized, uniform, Word}
-use Rattle.layout.specs.Printable.{ReaderFits, ObjectFits, RecordFits, Printable, record-fits, fits-record}
+use Rattle.layout.specs.Printable.{ReaderFits, ObjectFits, BoundsFit, RecordFits, Printable, length-stored, all-stored, stored-set, stored-fit, record-fits, fits-record}
 use Rattle.layout.specs.Field.{Field, cell-write, part-write, count-write, in-bytes}
 use Rattle.layout.specs.TableChanges.{bytes-table, rows-replace, counted-replace}
-use Rattle.layout.specs.Fields.{object-there, sized-object, sized-objects, sized-rows, timestamp-field, objects-field, last-field, reader-field, object-field, sizes, table-offsets, last-offset, reader-offset, object-offset}
-use Rattle.layout.specs.Holds.{Holds, with-timestamp, with-objects, with-lasts, with-readers}
+use Rattle.layout.specs.Fields.{object-there, sized-object, sized-objects, sized-rows, timestamp-field, objects-field, last-field, reader-field, versions-field, sizes, table-offsets, last-offset, reader-offset, versions-offset}
+use Rattle.layout.specs.Holds.{Holds, with-timestamp, with-objects, with-lasts, with-readers, with-bounds}
 
 module _ (l : Limits) (s : Sane l) (b : List ℕ) (u : Replica) (h : Holds l b u) where
   -- ---- any field: one cell, a part, and the rows of a table from i on
@@ -115,7 +116,7 @@ module _ (l : Limits) (s : Sane l) (b : List ℕ) (u : Replica) (h : Holds l b u
       let F = timestamp-field l (sized-objects l s) (sized-rows l s) in
       record {
         same = put-field F known v g ys refl v refl 0 refl w;
-        fits = fits-record l (with-timestamp v u) (F .put-fits (record-of u) known v g) (h .fits .bodies);
+        fits = fits-record l (with-timestamp v u) (h .fits .bounds .0) (F .put-fits (record-of u) known v g) (h .fits .bodies);
       }
 
   pub put-last : (c : ℕ) → c < clients → (v : ℕ) → Word v → (ys : List ℕ) → Put b ys (last-at c) v → Holds l ys (with-lasts (set (u .lasts) c v) u)
@@ -123,7 +124,7 @@ module _ (l : Limits) (s : Sane l) (b : List ℕ) (u : Replica) (h : Holds l b u
       let F = last-field l (sized-objects l s) (sized-rows l s) c k in
       record {
         same = put-field F known v g ys refl v refl (last-at c) (last-offset l s c k) w;
-        fits = fits-record l (with-lasts (set (u .lasts) c v) u) (F .put-fits (record-of u) known v g) (h .fits .bodies);
+        fits = fits-record l (with-lasts (set (u .lasts) c v) u) (h .fits .bounds .0) (F .put-fits (record-of u) known v g) (h .fits .bodies);
       }
 
   pub put-reader : (r : ℕ) → r < l .readers → (x : Option ℕ) → ReaderFits x → (ys : List ℕ) → Put b ys (reader-at r) (of-reader x) → Holds l ys (with-readers (set (u .readers) r x) u)
@@ -131,49 +132,65 @@ module _ (l : Limits) (s : Sane l) (b : List ℕ) (u : Replica) (h : Holds l b u
       let F = reader-field l (sized-objects l s) (sized-rows l s) r k in
       record {
         same = put-field F known x g ys refl (of-reader x) refl (reader-at r) (reader-offset l s r k) w;
-        fits = fits-record l (with-readers (set (u .readers) r x) u) (F .put-fits (record-of u) known x g) (h .fits .bodies);
+        fits = fits-record l (with-readers (set (u .readers) r x) u) (h .fits .bounds .0) (F .put-fits (record-of u) known x g) (h .fits .bodies);
       }
 
   -- ---- objects
 
-  fits-objects : (xs : List (List Version)) → length xs ≤ l .objects → All (ObjectFits (l .readers)) xs → Printable l (with-objects xs u)
-  fits-objects xs few g =
-      fits-record l (with-objects xs u) (objects-field l (sized-objects l s) (sized-rows l s) .put-fits (record-of u) known xs (few, g)) (h .fits .bodies)
+  -- the same record, with other objects
+  abbrev with-stored : List Stored → RecordArea
+  with-stored os = ((u .timestamp, (u .lasts, (u .readers, (os, map row-of (u .pending))))), tail-of u)
 
-  -- object i
-  pub write-object : (i : ℕ) → i < length (u .objects) → (vs : List Version) → ObjectFits (l .readers) vs → (ys : List ℕ) → ys ≡ putMid (object-at l i * 8) (object-width l * 8) b (uncells (object l .enc vs))
+  fits-objects : (xs : List (List Version)) → length xs ≡ length (u .objects) → All (ObjectFits (l .readers)) xs → Printable l (with-objects xs u)
+  fits-objects xs n g =
+      let f = h .fits in
+      record { timestamp = f .timestamp; lasts = f .lasts; readers = f .readers; objects = (omega (arith, f .objects .0), g); bounds = (f .bounds .0 ∙ sym n, f .bounds .1); rows = f .rows; tail = f .tail; bodies = f .bodies }
+
+  -- the versions of object i
+  pub write-object : (i : ℕ) → i < length (u .objects) → (vs : List Version) → ObjectFits (l .readers) vs → (ys : List ℕ) → ys ≡ putMid (object-at l i * 8) (versions-width l * 8) b (uncells (versions l .enc vs))
       → Holds l ys (with-objects (set (u .objects) i vs) u)
   write-object i k vs g ys e =
       let few = h .fits .objects .0 in
       let low : i < l .objects = omega arith in
       record {
-        same = write-field (object-field l s i low) (object-there l u (h .fits) i k) vs g ys (object-at l i) (object-width l) (object-offset l s i low) (sizes l .0) e;
-        fits = fits-objects (set (u .objects) i vs) (omega (arith, length-set (u .objects) i vs)) (all-set (ObjectFits (l .readers)) (u .objects) i vs (h .fits .objects .1) g);
+        same =
+            write-field (versions-field l s i low) (object-there l u (h .fits) i k) vs g ys (object-at l i) (versions-width l) (versions-offset l s i low) refl e
+            ∙ ap (λ (os : List Stored). record-area l .enc (with-stored os)) (stored-set (u .objects) (u .bounds) i vs ([], no-bounds));
+        fits = fits-objects (set (u .objects) i vs) (length-set (u .objects) i vs) (all-set (ObjectFits (l .readers)) (u .objects) i vs (h .fits .objects .1) g);
       }
 
-  -- all of them, as many as there are
+  -- all of them, as many as there are, with their bounds
   pub write-objects : (xs : List (List Version)) → length xs ≡ length (u .objects) → All (ObjectFits (l .readers)) xs
-      → (ys : List ℕ) → ys ≡ putMid (object-at l 0 * 8) (length xs * (object-width l * 8)) b (flat (map (bytewise (object l) .enc) xs)) → Holds l ys (with-objects xs u)
+      → (ys : List ℕ) → ys ≡ putMid (object-at l 0 * 8) (length xs * (object-width l * 8)) b (flat (map (bytewise (object l) .enc) (stored-from xs (u .bounds)))) → Holds l ys (with-objects xs u)
   write-objects xs n g ys e =
+      let os = stored-from xs (u .bounds) in
+      let fit = fits-objects xs n g in
+      let m = length-stored xs (u .bounds) in
       record {
-        same = rewrite-field (sized-object l s) (objects-field l (sized-objects l s) (sized-rows l s)) known 0 (omega arith) xs g (omega arith) (object-at l 0) (object-width l) (omega (arith, table-offsets l s .0)) (sizes l .0) ys e;
-        fits = fits-objects xs (omega (arith, h .fits .objects .0)) g;
+        same =
+            rewrite-field (sized-object l s) (objects-field l (sized-objects l s) (sized-rows l s)) known 0 (omega arith) os (stored-fit l (with-objects xs u) fit .1) (omega (arith, m, length-stored (u .objects) (u .bounds)))
+            (object-at l 0) (object-width l) (omega (arith, table-offsets l s .0)) (sizes l .0) ys (e ∙ rw m);
+        fits = fit;
       }
 
   -- the first ones
-  pub open-objects : u .objects ≡ [] → (xs : List (List Version)) → length xs ≤ l .objects → All (ObjectFits (l .readers)) xs
-      → (ys zs : List ℕ) → ys ≡ putMid (object-at l 0 * 8) (length xs * (object-width l * 8)) b (flat (map (bytewise (object l) .enc) xs)) → Put ys zs (size-at l) (length xs)
-      → Holds l zs (with-objects xs u)
-  open-objects none xs few g ys zs ey ez =
-      let y = length xs in
+  pub open-objects : u .objects ≡ [] → (xs : List (List Version)) (bs : List Bounds) → length xs ≤ l .objects → All (ObjectFits (l .readers)) xs → length bs ≡ length xs → All BoundsFit bs
+      → (ys zs : List ℕ) → ys ≡ putMid (object-at l 0 * 8) (length xs * (object-width l * 8)) b (flat (map (bytewise (object l) .enc) (stored-from xs bs))) → Put ys zs (size-at l) (length xs)
+      → Holds l zs (with-bounds bs (with-objects xs u))
+  open-objects none xs bs few g n f ys zs ey ez =
+      let os = stored-from xs bs in
+      let m : length os ≡ length xs = length-stored xs bs in
+      let y = length os in
       let z : y - 0 ≡ y = omega arith in
-      let full : flat (map (bytewise (object l) .enc) xs) ≡ table (y - 0) (object-width l * 8) (map (bytewise (object l) .enc) xs) =
-      sym (table-full (object-width l * 8) (map (bytewise (object l) .enc) xs) (y - 0) (length-map xs (bytewise (object l) .enc) ∙ sym z)) in
-      let e : ys ≡ putMid (object-at l 0 * 8) ((y - 0) * (object-width l * 8)) b (table (y - 0) (object-width l * 8) (map (bytewise (object l) .enc) xs)) =
-      ey ∙ ap₂ (λ (j : ℕ) (v : List ℕ). putMid (object-at l 0 * 8) (j * (object-width l * 8)) b v) (sym z) full in
+      let fit : Printable l (with-bounds bs (with-objects xs u)) = record { timestamp = h .fits .timestamp; lasts = h .fits .lasts; readers = h .fits .readers; objects = (few, g); bounds = (n, f); rows = h .fits .rows; tail = h .fits .tail; bodies = h .fits .bodies } in
+      let full : flat (map (bytewise (object l) .enc) os) ≡ table (y - 0) (object-width l * 8) (map (bytewise (object l) .enc) os) =
+      sym (table-full (object-width l * 8) (map (bytewise (object l) .enc) os) (y - 0) (length-map os (bytewise (object l) .enc) ∙ sym z)) in
+      let e : ys ≡ putMid (object-at l 0 * 8) ((y - 0) * (object-width l * 8)) b (table (y - 0) (object-width l * 8) (map (bytewise (object l) .enc) os)) =
+      ey ∙ ap₂ (λ (j : ℕ) (v : List ℕ). putMid (object-at l 0 * 8) (j * (object-width l * 8)) b v) (sym (z ∙ m)) full in
+      let empty : length (stored-of u) ≡ 0 = length-stored (u .objects) (u .bounds) ∙ ap length none in
       record {
         same =
-            replace-field (sized-object l s) (objects-field l (sized-objects l s) (sized-rows l s)) known 0 y (omega arith) (omega (arith, ap length none)) few xs g (omega arith)
-            (object-at l 0) (object-width l) (size-at l) (omega (arith, table-offsets l s .0)) (sizes l .0) (table-offsets l s .0) ys zs e (subst (Put ys zs (size-at l)) (sym (zero-add y)) ez);
-        fits = fits-objects xs few g;
+            replace-field (sized-object l s) (objects-field l (sized-objects l s) (sized-rows l s)) known 0 y (omega arith) (omega (arith, empty)) (omega (arith, m)) os (all-stored (l .readers) xs bs n g f) (omega arith)
+            (object-at l 0) (object-width l) (size-at l) (omega (arith, table-offsets l s .0)) (sizes l .0) (table-offsets l s .0) ys zs e (subst (Put ys zs (size-at l)) (sym (zero-add y ∙ m)) ez);
+        fits = fit;
       }

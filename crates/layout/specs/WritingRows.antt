@@ -17,7 +17,7 @@ use Rattle.model.specs.ListLaws.{All, map-set, all-join, all-take, all-in, all-
 use Rattle.layout.specs.Rows.{flat, table, blank}
 use Rattle.layout.specs.RowLaws.{table-full}
 use Rattle.layout.specs.Codec.{bytewise}
-use Rattle.layout.specs.Layout.{of-key, Row, row, RecordArea, record-cells, record-area, row-of, body-of, tail-of, record-of}
+use Rattle.layout.specs.Layout.{of-key, Row, row, RecordArea, record-cells, record-area, stored-of, row-of, body-of, tail-of, record-of}
 use Rattle.layout.specs.Offsets.{Sane, pending-at, row-width, row-at}
 use Rattle.layout.specs.Printable.{KeyFits, start-fits, RowFits, BodyFits, RecordFits, Printable, record-fits}
 use Rattle.layout.specs.Field.{put-put}
@@ -37,14 +37,14 @@ module _ (l : Limits) (s : Sane l) (b : List ℕ) (u : Replica) (h : Holds l b u
 
   -- the same record, with other rows
   abbrev with-rows : List Row → RecordArea
-  with-rows rs = ((u .timestamp, (u .lasts, (u .readers, (u .objects, rs)))), tail-of u)
+  with-rows rs = ((u .timestamp, (u .lasts, (u .readers, (stored-of u, rs)))), tail-of u)
 
   -- ---- pending transactions that fit
 
   fits-pending : (js : List Pending) → length js ≤ l .pending → All (RowFits (l .operations)) (map row-of js) → All (BodyFits (l .operations)) (map body-of js) → Printable l (with-pending js u)
   fits-pending js few r b =
       let g = h .fits in
-      record { timestamp = g .timestamp; lasts = g .lasts; readers = g .readers; objects = g .objects; rows = (omega (arith, length-map js row-of), r); tail = g .tail; bodies = b }
+      record { timestamp = g .timestamp; lasts = g .lasts; readers = g .readers; objects = g .objects; bounds = g .bounds; rows = (omega (arith, length-map js row-of), r); tail = g .tail; bodies = b }
 
   module _ {B : Type 0} (f : Pending → B) (P : B → Type 0) (a : All P (map f (u .pending))) where
     all-after : (i : ℕ) (js : List Pending) → All P (map f js) → All P (map f (take i (u .pending) ++ js))

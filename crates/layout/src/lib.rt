@@ -10,7 +10,7 @@ ghost use Rattle.model.specs.Lists.{index};
 ghost use Rattle.model.specs.Calls.{clients};
 ghost use Rattle.layout.specs.Layout.{of-key};
 ghost use Rattle.layout.specs.RowKeys.{keys};
-ghost use Rattle.layout.specs.Offsets.{Sane, CellAt, ByteAt, last-at, reader-at, size-at, object-width, object-at, pending-at};
+ghost use Rattle.layout.specs.Offsets.{Sane, CellAt, ByteAt, last-at, reader-at, size-at, object-width, lower-at, object-at, pending-at};
 ghost use Rattle.layout.specs.Offsets.{row-width, row-at, record-length, body-width, body-at, bodies-length};
 
 // Where the parts of a pending transaction's row lie, in cells from its start.
@@ -92,10 +92,18 @@ pub fn size_at(l: Limits) -> usize
     reader_at(l, l.readers)
 }
 
-// The cells of an object's block.
+// The cells of an object: the block of its versions and its bounds.
 pub fn object_width(l: Limits) -> usize
     requires { ⌜ Sane l ⌝ }
     ensures { λ r. ⌜ r ≡ object-width l ⌝ }
+{
+    versions::object_cells(l.readers)
+}
+
+// Where the bounds lie in an object, the lower first: behind its versions.
+pub fn bounds_at(l: Limits) -> usize
+    requires { ⌜ Sane l ⌝ }
+    ensures { λ r. ⌜ r ≡ lower-at l ⌝ }
 {
     versions::width(l.readers)
 }

@@ -54,6 +54,10 @@ abbrev pub with-readers : List (Option ℕ) → Replica → Replica
 with-readers x u =
     record { timestamp = u .timestamp; objects = u .objects; lasts = u .lasts; pending = u .pending; readers = x; bounds = u .bounds }
 
+abbrev pub with-bounds : List Bounds → Replica → Replica
+with-bounds x u =
+    record { timestamp = u .timestamp; objects = u .objects; lasts = u .lasts; pending = u .pending; readers = u .readers; bounds = x }
+
 -- ---- versions
 
 -- "every object's newest version"

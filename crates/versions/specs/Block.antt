@@ -1,20 +1,24 @@
 -- Definitions: an object's versions in a block of cells, and the readers' cells. Assumes nothing.
--- A block: a count, then a stamp and a value for each version, the newest first; unused cells are 0. A reader's cell: 0 closed, else its stamp + 1.
--- n is the number of readers, m that of objects, rc are the readers' cells, bc the cells of one block, cs those of blocks one after another.
+-- A block: a count, then a stamp and a value for each version, the newest first; unused cells are 0. An object: its block, then its lower and its
+-- upper bound. A reader's cell: 0 closed, else its stamp + 1.
+-- n is the number of readers, m that of objects, rc are the readers' cells, bc the cells of one block, oc those of one object, cs those of objects one
+-- after another.
 use mathlib.Core.Path.{_≡_}
 use mathlib.Core.Bool.{Bool, cond, _&&_}
 use mathlib.Core.Option.{Option, none, some}
 use mathlib.Core.List.{List, [], _∷_, _++_, map}
 use Prim.Native.Nat.{ℕ, zero, suc, _+_, _*_, _-_, _<_, _^_}
 use lib.Dec.{leb, ltb}
-use lib.ListN.{length, getD, drop, replicate}
+use lib.ListN.{length, getD, take, drop, replicate}
 use mir.Syntax.{w64}
 use mir.Val.{SFits, toZ, ofZ}
 unfoldable pub use Rattle.cells.specs.Chunks.{chunks}
 use Rattle.cells.specs.Zeros.{zeros}
+use Rattle.execution.specs.Bounds.{Bounds, ordered}
 use Rattle.model.specs.Lists.{any, all}
 use Rattle.model.specs.Serial.{Version}
 use Rattle.model.specs.Replica.{opens}
+use Rattle.model.specs.Shape.{versions-inside}
 use Rattle.model.specs.ShapeCheck.{versions-shaped}
 
 -- ---- what the cells say
@@ -22,6 +26,10 @@ use Rattle.model.specs.ShapeCheck.{versions-shaped}
 -- the cells of a block: one version more than there are readers
 abbrev pub width : ℕ → ℕ
 width n = 3 + 2 * n
+
+-- the cells of an object
+abbrev pub object-cells : ℕ → ℕ
+object-cells n = width n + 2
 
 abbrev pub version-of : ℕ → ℕ → Version
 version-of s b = record { stamp = s; value = toZ w64 b }
@@ -43,9 +51,19 @@ reader-of (suc r) = some r
 unfoldable pub stamps : List ℕ → List ℕ
 stamps rc = opens (map reader-of rc)
 
--- m objects' versions
+-- an object's block, and its bounds
+abbrev pub block-of : ℕ → List ℕ → List ℕ
+block-of n oc = take (width n) oc
+
+abbrev pub bounds-at : ℕ → List ℕ → Bounds
+bounds-at n oc = record { lower = toZ w64 (getD oc (width n) 0); upper = toZ w64 (getD oc (width n + 1) 0) }
+
+-- m objects' versions, and their bounds
 unfoldable pub objects-in : ℕ → ℕ → List ℕ → List (List Version)
-objects-in n m cs = map block-versions (chunks (width n) m cs)
+objects-in n m cs = map (λ oc. block-versions (block-of n oc)) (chunks (object-cells n) m cs)
+
+unfoldable pub bounds-in : ℕ → ℕ → List ℕ → List Bounds
+bounds-in n m cs = map (bounds-at n) (chunks (object-cells n) m cs)
 
 -- ---- and back
 
@@ -56,11 +74,6 @@ flat (v ∷ vs) = v .stamp ∷ ofZ w64 (v .value) ∷ flat vs
 -- the block with these versions
 unfoldable pub block : ℕ → List Version → List ℕ
 block n vs = length vs ∷ (flat vs ++ replicate (2 * (suc n - length vs)) 0)
-
--- the blocks of objects with these versions
-unfoldable pub laid : ℕ → List (List Version) → List ℕ
-laid n [] = []
-laid n (vs ∷ objs) = block n vs ++ laid n objs
 
 -- versions that cells can hold
 abbrev pub Small : List Version → Type 0
@@ -73,13 +86,21 @@ Small (v ∷ vs) = SFits w64 (v .value) × (v .stamp < 2 ^ 64) × Small vs
 unfoldable pub framed : ℕ → List ℕ → Bool
 framed n bc = leb (getD bc 0 0) (suc n) && zeros (drop (1 + 2 * getD bc 0 0) bc)
 
--- one object: its frame, and the model's rules on its versions
+-- one object's block: its frame, and the model's rules on its versions
 unfoldable pub block-ok : ℕ → ℕ → List ℕ → List ℕ → Bool
 block-ok n timestamp rc bc = framed n bc && versions-shaped timestamp (stamps rc) (block-versions bc)
 
+-- its bounds beside it: "each lower limit not above its upper, every version .. inside"
+unfoldable pub bounds-ok : Bounds → List ℕ → Bool
+bounds-ok b bc = ordered b && versions-inside b (block-versions bc)
+
+-- one object
+unfoldable pub object-ok : ℕ → ℕ → List ℕ → List ℕ → Bool
+object-ok n timestamp rc oc = block-ok n timestamp rc (block-of n oc) && bounds-ok (bounds-at n oc) (block-of n oc)
+
 -- m objects
 unfoldable pub blocks-ok : ℕ → ℕ → List ℕ → ℕ → List ℕ → Bool
-blocks-ok n timestamp rc m cs = all (block-ok n timestamp rc) (chunks (width n) m cs)
+blocks-ok n timestamp rc m cs = all (object-ok n timestamp rc) (chunks (object-cells n) m cs)
 
 -- ---- the check in one pass, from the newest version on
 
@@ -116,8 +137,8 @@ pub record Lent (n : ℕ) (rs bs : List ℕ) : Type 0 where
   pub reader-cells : length rs ≡ n * 8
   pub block-cells : length bs ≡ width n * 8
 
--- the areas lent: the readers' cells and m blocks; so few readers that the length of a block is an address, also where there is none
+-- the areas lent: the readers' cells and m objects; so few readers that an object's length is an address, also where there is none
 pub record LentBlocks (n m : ℕ) (rs bs : List ℕ) : Type 0 where
   pub reader-cells : length rs ≡ n * 8
-  pub block-cells : length bs ≡ m * (width n * 8)
+  pub block-cells : length bs ≡ m * (object-cells n * 8)
   pub few : n < 2 ^ 32

@@ -17,7 +17,7 @@ use Rattle.cells.specs.CellLaws.{cells-next, cells-end, cells-rest, cells-take,
 use Rattle.cells.specs.Zeros.{zeros}
 use Rattle.model.specs.Replica.{as-of}
 use Rattle.model.specs.ShapeCheck.{versions-shaped}
-use Rattle.versions.specs.Block.{width, version-of, versions-in, block-versions, stamps, chunks, framed, block-ok, blocks-ok, between, lowest, chain, chained}
+use Rattle.versions.specs.Block.{width, object-cells, version-of, versions-in, block-versions, stamps, chunks, framed, block-ok, object-ok, blocks-ok, between, lowest, chain, chained}
 use Rattle.versions.specs.OnePass.{versions-chain, lowest-below}
 
 -- ---- some_between
@@ -149,21 +149,21 @@ module _ (n timestamp : ℕ) (rc : List ℕ) (xs : List ℕ) (ex : length xs ≡
           let e : 3 ≡ 1 + 2 * k = omega arith in
           rw (single, lt-ltb f low h, frame t (z ∙ ap (λ (i : ℕ). zeros (slice i (width n) (cells xs))) e)) (and-true t)
 
--- ---- objects_ok: m blocks are left, from byte at on; the part lent is k bytes long
+-- ---- objects_ok: m objects are left, from byte at on; the part lent is k bytes long
 
-module _ (n timestamp : ℕ) (rc : List ℕ) (m at : ℕ) (xs : List ℕ) (h : 0 < m) (k : ℕ) (e : k ≡ width n * 8) (t : Bool) (g : t ≡ block-ok n timestamp rc (cells (take k (drop at xs)))) where
-  split : blocks-ok n timestamp rc m (cells (drop at xs)) ≡ t && blocks-ok n timestamp rc (m - 1) (cells (drop (at + width n * 8) xs))
+module _ (n timestamp : ℕ) (rc : List ℕ) (m at : ℕ) (xs : List ℕ) (h : 0 < m) (k : ℕ) (e : k ≡ object-cells n * 8) (t : Bool) (g : t ≡ object-ok n timestamp rc (cells (take k (drop at xs)))) where
+  split : blocks-ok n timestamp rc m (cells (drop at xs)) ≡ t && blocks-ok n timestamp rc (m - 1) (cells (drop (at + object-cells n * 8) xs))
   unfolding blocks-ok chunks
-  split = rw (← drop-drop (width n * 8) at xs, g, e) (go′ m h (drop at xs))
+  split = rw (← drop-drop (object-cells n * 8) at xs, g, e) (go′ m h (drop at xs))
     where
-      go′ : (m : ℕ) → 0 < m → (ys : List ℕ) → blocks-ok n timestamp rc m (cells ys) ≡ block-ok n timestamp rc (cells (take (width n * 8) ys)) && blocks-ok n timestamp rc (m - 1) (cells (drop (width n * 8) ys))
+      go′ : (m : ℕ) → 0 < m → (ys : List ℕ) → blocks-ok n timestamp rc m (cells ys) ≡ object-ok n timestamp rc (cells (take (object-cells n * 8) ys)) && blocks-ok n timestamp rc (m - 1) (cells (drop (object-cells n * 8) ys))
       go′ zero h ys = absurd (omega arith)
-      go′ (suc m) h ys = let b : suc m - 1 ≡ m = omega arith in rw (b, cells-take (width n) ys, cells-drop (width n) ys)
+      go′ (suc m) h ys = let b : suc m - 1 ≡ m = omega arith in rw (b, cells-take (object-cells n) ys, cells-drop (object-cells n) ys)
 
   pub blocks-no : t ≡ false → blocks-ok n timestamp rc m (cells (drop at xs)) ≡ false
   blocks-no a = split ∙ rw a
 
-  pub blocks-next : t ≡ true → blocks-ok n timestamp rc m (cells (drop at xs)) ≡ blocks-ok n timestamp rc (m - 1) (cells (drop (at + width n * 8) xs))
+  pub blocks-next : t ≡ true → blocks-ok n timestamp rc m (cells (drop at xs)) ≡ blocks-ok n timestamp rc (m - 1) (cells (drop (at + object-cells n * 8) xs))
   blocks-next a = split ∙ rw a
 
 pub blocks-end : (n timestamp : ℕ) (rc : List ℕ) (m : ℕ) (cs : List ℕ) → m ≤ 0 → blocks-ok n timestamp rc m cs ≡ true

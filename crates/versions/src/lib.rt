@@ -1,4 +1,5 @@
-// One object's versions in a block of cells: a count, then stamp and value of each version, the newest first; unused cells are 0.
+// One object's versions in a block of cells: a count, then stamp and value of each version, the newest first; unused cells are 0. Behind an object's
+// block stand its lower and its upper bound.
 // A reader's cell is 0 where it is closed, else its stamp + 1: snapshots are the cells of all readers.
 ghost use mathlib.Core.Path.{_≡_};
 ghost use mathlib.Core.Bool.{_&&_};
@@ -7,7 +8,7 @@ ghost use lib.Dec.{ltb, leb};
 ghost use lib.ListN.{length, getD};
 ghost use Rattle.cells.specs.Cells.{cells};
 ghost use Rattle.model.specs.Replica.{as-of};
-ghost use Rattle.versions.specs.Block.{width as block-width, block-versions, between};
+ghost use Rattle.versions.specs.Block.{width as block-width, object-cells as cells-of-object, block-versions, between};
 
 // The cells of a block: a count, and a stamp and a value for one version more than there are readers.
 pub fn width(readers: usize) -> usize
@@ -15,6 +16,14 @@ pub fn width(readers: usize) -> usize
     ensures { λ r. ⌜ r ≡ block-width readers ⌝ }
 {
     3 + 2 * readers
+}
+
+// The cells of an object: its block and its two bounds.
+pub fn object_cells(readers: usize) -> usize
+    requires { ⌜ readers < 2 ^ 60 ⌝ }
+    ensures { λ r. ⌜ r ≡ cells-of-object readers ⌝ }
+{
+    width(readers) + 2
 }
 
 // Is c an open reader's cell whose stamp is s or more, and below upper? A closed reader's 0 is above no s.

@@ -1,16 +1,17 @@
 //! Three replicas with early orders, work and readers' moments of their own, and equal final deliveries.
 
-use crate::bodies::{valid, value, Taste};
-use crate::calls::Calls;
-use crate::comparison::{same, Difference};
+use crate::bodies::{valid, Taste};
+use crate::calls::{Calls, Opening};
+use crate::comparison::{committed_objects, same, Difference};
 use crate::coverage::Coverage;
 use crate::face;
 use crate::independent::State;
 use crate::layout::parse;
 use crate::limits::{CLIENTS, STANDARD};
+use crate::openings::Objects;
 use crate::random::Random;
 use crate::serial::Serial;
-use jobstore::{raw, Committed, Key, Refusal, Replica};
+use jobstore::{raw, Bounds, Committed, Key, Refusal, Replica};
 
 #[derive(Clone)]
 struct Job {
@@ -20,8 +21,7 @@ struct Job {
 
 /// What all three replicas are given, in the final order.
 struct Plan {
-    values: Vec<i64>,
-    stamp: u32,
+    opening: Opening,
     jobs: Vec<Job>,
     /// Jobs that arrive early at some replicas and are never delivered finally.
     lost: Vec<Job>,
@@ -66,9 +66,10 @@ fn plan(random: &mut Random) -> Plan {
     }
     let lost = if random.percent(50) { 0 } else { random.between(1, 6) };
     let reader = |random: &mut Random| random.percent(20).then(|| random.below(STANDARD.readers) as u32);
+    let stamp = random.pick(&[0, 9, u32::MAX - 30, u32::MAX - 200]);
+    let objects = Objects { n, wild: taste.wild, bounded: random.pick(&[0, 50, 100]) };
     Plan {
-        values: (0..n).map(|_| value(random, taste.wild)).collect(),
-        stamp: random.pick(&[0, 9, u32::MAX - 30, u32::MAX - 200]),
+        opening: objects.opening(random, stamp),
         lost: (0..lost).map(|_| job(random, &mut next, clients, n, taste)).collect(),
         opened: (0..count).map(|_| reader(random)).collect(),
         closed: (0..count).map(|_| reader(random)).collect(),
@@ -78,7 +79,9 @@ fn plan(random: &mut Random) -> Plan {
 
 impl Site {
     fn new(plan: &Plan) -> Result<Site, Difference> {
-        let replica = Replica::opened(&plan.values, plan.stamp).map_err(|refusal| format!("opening: {refusal}"))?;
+        let Opening { values, lower, upper, stamp, .. } = &plan.opening;
+        let replica = Replica::opened_with_bounds(values, Bounds { lower, upper }, *stamp);
+        let replica = replica.map_err(|refusal| format!("opening: {refusal}"))?;
         Ok(Site { replica, early_order: Vec::new(), operations: 0 })
     }
 
@@ -136,7 +139,7 @@ pub fn compare_replicas(seed: u64, coverage: &mut Coverage) -> Result<(), Differ
     let plan = plan(&mut random);
     let mut sites = [Site::new(&plan)?, Site::new(&plan)?, Site::new(&plan)?];
     let mut serial = Serial::new(STANDARD);
-    serial.open(plan.values.len() as u32, &plan.values, plan.stamp);
+    serial.open(&plan.opening);
     for next in 0..plan.jobs.len() {
         let results = sites.iter_mut().map(|site| site.deliver(&mut random, &plan, next));
         let (committed, readers): (Vec<_>, Vec<_>) = results.unzip();
@@ -148,7 +151,7 @@ pub fn compare_replicas(seed: u64, coverage: &mut Coverage) -> Result<(), Differ
             same("readers' answers", readers[site], readers[0])?;
         }
         count_delivery(coverage, &committed);
-        compare_readings(coverage, &mut random, &sites, plan.values.len())?;
+        compare_readings(coverage, &mut random, &sites, plan.opening.values.len())?;
         // No stamp is left: what is pending stays so, and from here on places may run out at one replica alone.
         if plain.number == 9 {
             break;
@@ -195,10 +198,7 @@ fn compare_ends(coverage: &mut Coverage, sites: &[Site; SITES], serial: &Serial)
         same("last numbers", state.last, serial.last)?;
         // With their stamps, older versions too: the readers are the same.
         same("versions", &state.objects, &states[0].objects)?;
-        for (versions, plain) in state.objects.iter().zip(&serial.objects) {
-            let newest = versions[versions.len() - 1];
-            same("committed table", (newest.value, newest.timestamp), (plain.value, plain.timestamp))?;
-        }
+        same("committed table", &committed_objects(state), &serial.objects)?;
     }
     if states.iter().all(|state| state.pending.is_empty()) {
         same("areas byte for byte", sites.iter().all(|site| site.replica == sites[0].replica), true)?;
@@ -229,6 +229,7 @@ pub fn required() -> Vec<String> {
         "all commit with outcome 0",
         "all commit with outcome 1",
         "all commit with outcome 2",
+        "all commit with outcome 3",
         "all keep",
         "all refuse with 4",
         "all refuse with 9",

@@ -5,14 +5,14 @@ use crate::body::decode;
 use crate::calls::{Answer, Call, Calls};
 use crate::coverage::Coverage;
 use crate::face::Face;
-use crate::independent::{overlay, Independent, Run, State};
+use crate::independent::{overlay, Bounds, Independent, Run, State, Version};
 use crate::layout::{parse, print};
 use crate::library::Library;
 use crate::limits::{Limits, STANDARD};
 use crate::lists::Mix;
 use crate::observation::{observe, FIRST_RUN_AGAIN};
 use crate::random::Random;
-use crate::serial::Serial;
+use crate::serial::{Object, Serial};
 
 pub struct Comparison {
     pub limits: Limits,
@@ -70,14 +70,14 @@ impl Comparison {
 
     fn expected(&mut self, call: &Call) -> Answer {
         match call {
-            Call::Open { .. } if !self.lengths_fit() => Answer::Number(1),
+            Call::Open(_) if !self.lengths_fit() => Answer::Number(1),
             _ => self.independent.perform(call),
         }
     }
 
     /// The same call by the Rust package. Its opening takes no number of objects beside the values.
     fn compare_face(&self, call: &Call, before: &Library, answer: &Answer) -> Result<(), Difference> {
-        if matches!(call, Call::Open { n, values, .. } if *n as usize != values.len()) {
+        if matches!(call, Call::Open(opening) if opening.n as usize != opening.values.len()) {
             return Ok(());
         }
         let mut face = Face::from(before.clone());
@@ -86,7 +86,7 @@ impl Comparison {
     }
 
     fn compare_serial(&mut self, call: &Call, answer: &Answer) -> Result<(), Difference> {
-        let opening = matches!(call, Call::Open { .. }) && *answer == Answer::Number(0);
+        let opening = matches!(call, Call::Open(_)) && *answer == Answer::Number(0);
         if !opening && !self.serial.opened() {
             return Ok(());
         }
@@ -100,10 +100,7 @@ impl Comparison {
         let (state, serial) = (self.independent.state.as_ref().unwrap(), &self.serial);
         same("stamp", state.timestamp, serial.timestamp)?;
         same("last numbers", state.last, serial.last)?;
-        let newest = state.objects.iter().map(|versions| versions[versions.len() - 1]);
-        let committed: Vec<(i64, u32)> = newest.map(|version| (version.value, version.timestamp)).collect();
-        let plain: Vec<(i64, u32)> = serial.objects.iter().map(|object| (object.value, object.timestamp)).collect();
-        same("committed table", committed, plain)?;
+        same("committed table", &committed_objects(state), &serial.objects)?;
         same("pending", state.pending.len(), serial.pending.len())?;
         for (pending, plain) in state.pending.iter().zip(&serial.pending) {
             let key = (pending.client, pending.sequence, &pending.body);
@@ -146,6 +143,15 @@ impl Comparison {
     }
 }
 
+/// The newest version and the bounds of every object, as the plain table has them.
+pub fn committed_objects(state: &State) -> Vec<Object> {
+    let object = |(versions, bounds): (&Vec<Version>, &Bounds)| {
+        let Version { timestamp, value } = versions[versions.len() - 1];
+        Object { value, timestamp, lower: bounds.lower, upper: bounds.upper }
+    };
+    state.objects.iter().zip(&state.bounds).map(object).collect()
+}
+
 /// Part by part, so that a report is short.
 fn same_states(library: &State, expected: &State) -> Result<(), Difference> {
     same("areas: stamp", library.timestamp, expected.timestamp)?;
@@ -155,6 +161,7 @@ fn same_states(library: &State, expected: &State) -> Result<(), Difference> {
     for (object, (versions, others)) in library.objects.iter().zip(&expected.objects).enumerate() {
         same(&format!("areas: versions of object {object}"), versions, others)?;
     }
+    same("areas: bounds", &library.bounds, &expected.bounds)?;
     same("areas: number pending", library.pending.len(), expected.pending.len())?;
     for (place, (pending, other)) in library.pending.iter().zip(&expected.pending).enumerate() {
         same(&format!("areas: pending at place {place}"), pending, other)?;
@@ -170,7 +177,7 @@ fn early_results(limits: Limits, state: &State) -> Result<(), Difference> {
         let program = decode(&pending.body, limits.operations, table.len()).unwrap();
         let mut run = Run::default();
         while run.outcome.is_none() && run.program_counter < recorded.program_counter {
-            run.step(&program, &table);
+            run.step(&program, &table, &state.bounds);
         }
         same("early results on record", recorded, &run)?;
         overlay(&mut table, &run.writes);
@@ -188,7 +195,7 @@ pub fn compare_list(seed: u64, coverage: &mut Coverage) -> Result<usize, Differe
     let length = random.between(10, 220);
     while calls.len() < unopened + length {
         let call = match calls.len() {
-            position if position == unopened => mix.opening(&mut random),
+            position if position == unopened => Call::Open(mix.opening(&mut random)),
             _ => mix.call(&mut random, comparison.independent.state.as_ref()),
         };
         calls.push(call);

@@ -2,10 +2,12 @@
 //! reader of the layout to say; on areas that still pass, the independent implementation takes up what they hold.
 
 use crate::bodies::{valid, value, Taste};
-use crate::calls::{Call, Calls};
+use crate::bounds_damage::{self, damage_bounds};
+use crate::calls::{Call, Calls, Opening};
 use crate::comparison::{Comparison, Difference};
 use crate::coverage::Coverage;
-use crate::independent::{Independent, State};
+use crate::fields::narrowest;
+use crate::independent::{Bounds, Independent, State};
 use crate::layout::{self, cell, parse, print, set_cell};
 use crate::library::Library;
 use crate::limits::{Limits, CLIENTS, REGISTERS, STANDARD};
@@ -16,7 +18,7 @@ use crate::random::Random;
 /// A state that some list of calls leads to.
 fn honest(random: &mut Random, mix: &Mix) -> State {
     let mut independent = Independent::new(STANDARD);
-    independent.perform(&mix.opening(random));
+    independent.open(&mix.opening(random));
     for _ in 0..random.between(0, 120) {
         let call = mix.call(random, independent.state.as_ref());
         independent.perform(&call);
@@ -26,21 +28,31 @@ fn honest(random: &mut Random, mix: &Mix) -> State {
 
 /// Damages the areas and names the kind of damage.
 fn damage(random: &mut Random, state: &State, areas: &mut Library) -> &'static str {
-    match random.below(12) {
+    match random.below(14) {
         0 => flip(random, areas),
         1 => noise(random, areas),
         2 => lengths(random, areas),
         3 => exchange(random, state, areas),
         4..=7 => change_cell(random, state, areas),
-        _ => {
-            let mut forged = state.clone();
+        8 | 9 => reprinted(state, areas, |damaged| damage_bounds(random, damaged)),
+        _ => reprinted(state, areas, |forged| {
             for _ in 0..random.between(1, 4) {
-                forge(random, &mut forged);
+                forge(random, forged);
             }
-            (areas.record, areas.bodies) = print(STANDARD, &forged);
+            if random.percent(80) {
+                bring_inside(forged);
+            }
             "forged"
-        }
+        }),
     }
+}
+
+/// The areas of the state as it is after the change, whose name it yields.
+fn reprinted(state: &State, areas: &mut Library, change: impl FnOnce(&mut State) -> &'static str) -> &'static str {
+    let mut changed = state.clone();
+    let kind = change(&mut changed);
+    (areas.record, areas.bodies) = print(STANDARD, &changed);
+    kind
 }
 
 /// A byte's place in the area, mostly one that is in use.
@@ -113,7 +125,7 @@ fn change_cell(random: &mut Random, state: &State, areas: &mut Library) -> &'sta
     let run = state.pending.get(place).map(|pending| &pending.run);
     let entries = run.map_or(0, |run| run.reads.len() + run.writes.len());
     let row = limits.row(place);
-    let at = match random.below(10) {
+    let at = match random.below(11) {
         0 => layout::TIMESTAMP,
         1 => layout::LASTS + random.below(CLIENTS),
         2 => layout::READERS + random.below(limits.readers),
@@ -123,6 +135,7 @@ fn change_cell(random: &mut Random, state: &State, areas: &mut Library) -> &'sta
         6 => limits.pending_count(),
         7 => row + random.below(layout::ENTRIES),
         8 => row + layout::ENTRIES + random.below(2 * (entries + 1).min(limits.operations)),
+        9 => object + random.pick(&[limits.lower(), limits.upper()]),
         _ => row + random.pick(&[layout::PROGRAM_COUNTER, layout::OUTCOME, layout::READ_COUNT, layout::ENTRY_COUNT]),
     };
     let old = cell(&areas.record, at);
@@ -141,7 +154,7 @@ fn forge(random: &mut Random, state: &mut State) {
     let n = state.objects.len();
     let object = random.below(n);
     let new = value(random, true);
-    match random.below(12) {
+    match random.below(13) {
         0 => state.objects[object].iter_mut().for_each(|version| version.value = version.value.wrapping_add(new)),
         1 => state.timestamp = state.timestamp.saturating_add(random.between(1, 3) as u32),
         2 => state.last[random.below(CLIENTS)] = random.pick(&[0, 1, 2, 5, u32::MAX]),
@@ -149,6 +162,11 @@ fn forge(random: &mut Random, state: &mut State) {
             let taken = random.below(state.timestamp as usize + 2) as u32;
             let reader = random.below(state.readers.len());
             state.readers[reader] = random.pick(&[None, Some(taken), Some(state.timestamp)]);
+        }
+        4 => {
+            let narrowest = narrowest(state, object);
+            let Bounds { lower, upper } = random.pick(&[narrowest, state.bounds[object], Bounds::WIDEST]);
+            state.bounds[object] = Bounds { lower: lower.min(new), upper: upper.max(new) };
         }
         _ if state.pending.is_empty() => {}
         _ => forge_run(random, state, object, new),
@@ -171,7 +189,7 @@ fn forge_run(random: &mut Random, state: &mut State, object: usize, new: i64) {
         6 if room => run.writes.push((object, new)),
         7 => {
             run.program_counter = random.between(1, m);
-            run.outcome = Some(random.pick(&[1, 2]));
+            run.outcome = Some(random.pick(&[1, 2, 3]));
             run.writes.clear();
         }
         8 => run.program_counter = random.between(0, m),
@@ -183,6 +201,18 @@ fn forge_run(random: &mut Random, state: &mut State, object: usize, new: i64) {
             let taste = Taste { most: STANDARD.operations, hot: 3, wild: true };
             pending.body = valid(random, state.objects.len(), taste);
         }
+    }
+}
+
+/// Versions and recorded stores that are outside their bounds go to the nearest value inside.
+fn bring_inside(state: &mut State) {
+    let State { objects, bounds, pending, .. } = state;
+    let bring = |value: &mut i64, object: usize| *value = (*value).clamp(bounds[object].lower, bounds[object].upper);
+    for (object, versions) in objects.iter_mut().enumerate() {
+        versions.iter_mut().for_each(|version| bring(&mut version.value, object));
+    }
+    for (object, value) in pending.iter_mut().flat_map(|pending| &mut pending.run.writes) {
+        bring(value, *object);
     }
 }
 
@@ -212,10 +242,10 @@ fn every_call(random: &mut Random, mix: &Mix, state: &State) -> Vec<Call> {
         Call::Final { client, sequence },
         Call::OpenReader { reader: random.below(7) as u32 },
         Call::CloseReader { reader: random.below(7) as u32 },
-        Call::Open { n: 0, values: vec![], stamp: 0 },
+        Call::Open(Opening::plain(&[], 0)),
     ];
     random.shuffle(&mut calls);
-    calls.push(mix.opening(random));
+    calls.push(Call::Open(mix.opening(random)));
     calls
 }
 
@@ -279,6 +309,7 @@ pub fn required() -> Vec<String> {
     let refused = calls.iter().map(|call| format!("{call} 1"));
     let others = ["other lengths: fails", "show body: empty", FIRST_RUN_AGAIN];
     let kept =
-        (0..3).flat_map(|outcome| ["kept", "run again"].map(|verdict| format!("final: outcome {outcome}, {verdict}")));
-    verdicts.chain(sentences).chain(refused).chain(others.map(str::to_string)).chain(kept).collect()
+        (0..4).flat_map(|outcome| ["kept", "run again"].map(|verdict| format!("final: outcome {outcome}, {verdict}")));
+    let verdicts = verdicts.chain(bounds_damage::required()).chain(sentences);
+    verdicts.chain(refused).chain(others.map(str::to_string)).chain(kept).collect()
 }

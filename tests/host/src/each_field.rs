@@ -6,7 +6,7 @@ use crate::calls::{Call, Calls};
 use crate::comparison::{same, Comparison, Difference};
 use crate::coverage::Coverage;
 use crate::fields::{fields, Field, Meaning, Place, KINDS};
-use crate::independent::{State, Version};
+use crate::independent::{Bounds, State, Version};
 use crate::layout::{cell, parse, print, set_cell};
 use crate::library::Library;
 use crate::limits::STANDARD;
@@ -29,6 +29,10 @@ fn others(random: &mut Random, areas: &Library, state: &State, field: &Field) ->
     let mut values = match field.meaning {
         Meaning::Unused => vec![flipped],
         Meaning::Free => vec![flipped, random.next()],
+        Meaning::Inside(Bounds { lower, upper }) => {
+            let edges = [lower, upper, lower.wrapping_sub(1), upper.wrapping_add(1)].map(|value| value as u64);
+            [&edges[..], &[flipped]].concat()
+        }
         Meaning::Ruled => vec![0, 1, old.wrapping_add(1), old.wrapping_sub(1), flipped, small, wide],
     };
     values.retain(|value| value & (u64::MAX >> (64 - bits)) != old);
@@ -102,7 +106,7 @@ impl Trial<'_> {
             }
             if count <= STANDARD.readers {
                 let mut more = state.clone();
-                more.objects[object].insert(random.below(count + 1), any_version(random, state));
+                more.objects[object].insert(random.below(count + 1), any_version(random, state, object));
                 more.objects[object].sort_by_key(|version| version.timestamp);
                 self.meet(&format!("one put in to {count} versions"), printed(&more))?;
             }
@@ -133,11 +137,12 @@ impl Trial<'_> {
     }
 }
 
-/// A stamp from the objects' oldest to just above the replica's.
-fn any_version(random: &mut Random, state: &State) -> Version {
+/// A stamp from the objects' oldest to just above the replica's, and a value inside the object's bounds.
+fn any_version(random: &mut Random, state: &State, object: usize) -> Version {
     let oldest = state.objects.iter().map(|versions| versions[0].timestamp).min().unwrap();
     let stamp = random.between(oldest as usize, state.timestamp as usize + 1);
-    Version { timestamp: stamp as u32, value: random.next() as i64 }
+    let Bounds { lower, upper } = state.bounds[object];
+    Version { timestamp: stamp as u32, value: (random.next() as i64).clamp(lower, upper) }
 }
 
 /// All specimens, damaged in each field, as often as wanted; what they came across.
@@ -173,6 +178,7 @@ fn either(class: impl Display) -> [String; 2] {
 pub fn required() -> Vec<String> {
     let mut names = [of_versions(), of_rows(), of_bodies()].concat();
     names.extend(["stamp", "last number", "open reader", "closed reader", "number of operations"].map(either).concat());
+    names.extend(["lower bound", "upper bound"].map(either).concat());
     names.extend(["number of objects", "number pending"].map(fails));
     names.extend(["unused object", "unused row", "unused body", "tail of a body"].map(fails));
     for call in ["find", "read", "work", "final", "close", "early", "open reader", "show body"] {
@@ -189,11 +195,12 @@ fn of_versions() -> Vec<String> {
         names.push(fails(format!("one of {count} versions taken out")));
         for j in 1..=count {
             names.extend(either(format!("stamp {j} of {count}")));
-            names.push(passes(format!("value {j} of {count}")));
+            names.extend(either(format!("value {j} of {count}")));
         }
         for readers in count - 1..=STANDARD.readers {
             names.push(fails(format!("{readers} readers, count of {count} versions")));
             names.extend((1..=count).map(|j| fails(format!("{readers} readers, stamp {j} of {count}"))));
+            names.extend((1..=count).map(|j| fails(format!("{readers} readers, value {j} of {count}"))));
         }
     }
     for count in 1..=STANDARD.readers {
@@ -208,17 +215,16 @@ fn of_versions() -> Vec<String> {
 fn of_rows() -> Vec<String> {
     const RULED: [&str; 6] = ["key", "place", "outcome", "number of reads", "number of entries", "tail of a row"];
     let mut names = Vec::new();
-    for kind in ["outcome 0", "outcome 1", "outcome 2", "partly run", "not begun"] {
+    for kind in ["outcome 0", "outcome 1", "outcome 2", "outcome 3", "partly run", "not begun"] {
         names.extend(RULED.map(|class| fails(format!("{class}, {kind}"))));
         names.push(passes(format!("key, {kind}")));
     }
-    for kind in ["outcome 0", "outcome 1", "outcome 2", "partly run"] {
+    for kind in ["outcome 0", "outcome 1", "outcome 2", "outcome 3", "partly run"] {
         names.extend(either(format!("read's object, {kind}")));
         names.extend(["read's value", "register", "outcome"].map(|class| passes(format!("{class}, {kind}"))));
     }
     for kind in ["outcome 0", "partly run"] {
-        names.extend(either(format!("store's object, {kind}")));
-        names.push(passes(format!("store's value, {kind}")));
+        names.extend(["store's object", "store's value"].map(|class| either(format!("{class}, {kind}"))).concat());
     }
     names.push(fails("register, not begun"));
     for pending in [STANDARD.pending - 1, STANDARD.pending] {

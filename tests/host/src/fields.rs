@@ -2,7 +2,7 @@
 //! treats alike, so that each class can be damaged and counted.
 
 use crate::body::{decode, Operation};
-use crate::independent::{State, Transaction};
+use crate::independent::{Bounds, State, Transaction};
 use crate::layout::{
     ENTRIES, ENTRY_COUNT, FIRST_REGISTER, KEY, LASTS, OUTCOME, PROGRAM_COUNTER, READERS, READ_COUNT, TIMESTAMP,
 };
@@ -23,6 +23,8 @@ pub enum Meaning {
     Unused,
     /// Whatever it holds passes.
     Free,
+    /// What lies inside passes, and nothing else.
+    Inside(Bounds),
     /// Some of what it may hold passes.
     Ruled,
 }
@@ -43,12 +45,10 @@ pub fn fields(limits: Limits, state: &State) -> Vec<Field> {
         all.cell(READERS + index, if reader.is_some() { "open reader" } else { "closed reader" }, Meaning::Ruled);
     }
     all.cell(limits.object_count(), "number of objects", Meaning::Ruled);
-    for object in 0..limits.objects {
-        all.object(limits, limits.object(object), state.objects.get(object).map_or(0, Vec::len));
-    }
+    (0..limits.objects).for_each(|object| all.object(limits, object, state));
     all.cell(limits.pending_count(), "number pending", Meaning::Ruled);
     for place in 0..limits.pending {
-        all.row(limits, limits.row(place), state.pending.get(place));
+        all.row(limits, place, state);
         all.body(limits, place * limits.place_length(), state.pending.get(place), state.objects.len());
     }
     all.list
@@ -68,23 +68,30 @@ impl Fields {
         self.put(Place::Cell(at), class.to_string(), meaning);
     }
 
-    fn object(&mut self, limits: Limits, at: usize, versions: usize) {
-        let end = at + limits.object_cells();
-        if versions == 0 {
+    fn object(&mut self, limits: Limits, object: usize, state: &State) {
+        let at = limits.object(object);
+        let Some(versions) = state.objects.get(object).map(Vec::len) else {
+            let end = at + limits.object_cells();
             return (at..end).for_each(|cell| self.cell(cell, "unused object", Meaning::Unused));
-        }
+        };
         self.cell(at, &format!("count of {versions} versions"), Meaning::Ruled);
+        let inside = Meaning::Inside(state.bounds[object]);
         for j in 0..versions {
             self.cell(at + 1 + 2 * j, &format!("stamp {} of {versions}", j + 1), Meaning::Ruled);
-            self.cell(at + 2 + 2 * j, &format!("value {} of {versions}", j + 1), Meaning::Free);
+            self.cell(at + 2 + 2 * j, &format!("value {} of {versions}", j + 1), inside);
         }
+        let (lower, upper) = (at + limits.lower(), at + limits.upper());
         let tail = format!("tail behind {versions} versions");
-        (at + 1 + 2 * versions..end).for_each(|cell| self.cell(cell, &tail, Meaning::Unused));
+        (at + 1 + 2 * versions..lower).for_each(|cell| self.cell(cell, &tail, Meaning::Unused));
+        let narrowest = narrowest(state, object);
+        self.cell(lower, "lower bound", Meaning::Inside(Bounds { upper: narrowest.lower, ..Bounds::WIDEST }));
+        self.cell(upper, "upper bound", Meaning::Inside(Bounds { lower: narrowest.upper, ..Bounds::WIDEST }));
     }
 
-    fn row(&mut self, limits: Limits, at: usize, pending: Option<&Transaction>) {
+    fn row(&mut self, limits: Limits, place: usize, state: &State) {
+        let at = limits.row(place);
         let end = at + limits.row_cells();
-        let Some(Transaction { run, .. }) = pending else {
+        let Some(Transaction { run, .. }) = state.pending.get(place) else {
             return (at..end).for_each(|cell| self.cell(cell, "unused row", Meaning::Unused));
         };
         let begun = run.program_counter > 0;
@@ -100,12 +107,13 @@ impl Fields {
         (0..REGISTERS).for_each(|r| self.cell(at + FIRST_REGISTER + r, &format!("register, {kind}"), free));
         self.cell(at + READ_COUNT, &format!("number of reads, {kind}"), Meaning::Ruled);
         self.cell(at + ENTRY_COUNT, &format!("number of entries, {kind}"), Meaning::Ruled);
-        let entries = run.reads.len() + run.writes.len();
-        for j in 0..entries {
-            let set = if j < run.reads.len() { "read" } else { "store" };
+        let reads = run.reads.iter().map(|_| ("read", Meaning::Free));
+        let stores = run.writes.iter().map(|&(object, _)| ("store", Meaning::Inside(state.bounds[object])));
+        for (j, (set, meaning)) in reads.chain(stores).enumerate() {
             self.cell(at + ENTRIES + 2 * j, &format!("{set}'s object, {kind}"), Meaning::Ruled);
-            self.cell(at + ENTRIES + 2 * j + 1, &format!("{set}'s value, {kind}"), Meaning::Free);
+            self.cell(at + ENTRIES + 2 * j + 1, &format!("{set}'s value, {kind}"), meaning);
         }
+        let entries = run.reads.len() + run.writes.len();
         let tail = format!("tail of a row, {kind}");
         (at + ENTRIES + 2 * entries..end).for_each(|cell| self.cell(cell, &tail, Meaning::Unused));
     }
@@ -131,6 +139,14 @@ impl Fields {
         let used = if m > 0 { 1 + 11 * m } else { 0 };
         (at + used..end).for_each(|byte| self.put(Place::Byte(byte), unused.to_string(), Meaning::Unused));
     }
+}
+
+/// The narrowest bounds that the object can have: around its versions and the stores on record.
+pub fn narrowest(state: &State, object: usize) -> Bounds {
+    let stores = state.pending.iter().flat_map(|pending| &pending.run.writes);
+    let stored = stores.filter(|write| write.0 == object).map(|write| write.1);
+    let held: Vec<i64> = state.objects[object].iter().map(|version| version.value).chain(stored).collect();
+    Bounds { lower: *held.iter().min().unwrap(), upper: *held.iter().max().unwrap() }
 }
 
 pub const KINDS: [&str; 8] = ["load", "store", "set", "add", "subtract", "skip", "fail", "divide"];

@@ -65,8 +65,8 @@ impl Bounds {
         self.lower <= self.upper
     }
 
-    pub fn contain(&self, value: i64) -> bool {
-        !(value < self.lower || self.upper < value)
+    pub fn contains(&self, value: i64) -> bool {
+        (self.lower..=self.upper).contains(&value)
     }
 }
 
@@ -113,7 +113,7 @@ impl Run {
 
     fn store(&mut self, register: usize, object: usize, bounds: Bounds) -> &'static str {
         let value = self.registers[register];
-        if !bounds.contain(value) {
+        if !bounds.contains(value) {
             let first = self.writes.is_empty();
             return self.stop(3, outside(value < bounds.lower, first));
         }
@@ -127,10 +127,12 @@ impl Run {
                 "store"
             }
         };
-        match value {
-            _ if value == bounds.lower => "store at its lower bound",
-            _ if value == bounds.upper => "store at its upper bound",
-            _ => event,
+        if value == bounds.lower {
+            "store at its lower bound"
+        } else if value == bounds.upper {
+            "store at its upper bound"
+        } else {
+            event
         }
     }
 
@@ -277,7 +279,7 @@ impl Calls for Independent {
             return 2;
         }
         let bounds: Vec<Bounds> = lower.iter().zip(upper).map(|(&lower, &upper)| Bounds { lower, upper }).collect();
-        if bounds.iter().zip(values).any(|(bounds, &value)| !bounds.ordered() || !bounds.contain(value)) {
+        if bounds.iter().zip(values).any(|(bounds, &value)| !bounds.ordered() || !bounds.contains(value)) {
             return 15;
         }
         self.state = Some(State {

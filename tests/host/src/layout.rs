@@ -208,7 +208,7 @@ impl Reader<'_> {
         let bounds =
             Bounds { lower: self.signed(at + self.limits.lower()), upper: self.signed(at + self.limits.upper()) };
         ask(bounds.ordered(), "lower bounds not above their upper ones")?;
-        let inside = versions.iter().all(|version| bounds.contain(version.value));
+        let inside = versions.iter().all(|version| bounds.contains(version.value));
         ask(inside, "versions inside their object's bounds")?;
         Ok(bounds)
     }
@@ -226,7 +226,7 @@ impl Reader<'_> {
         let body = place[..1 + 11 * m].to_vec();
         ask(decode(&body, self.limits.operations, state.objects.len()).is_ok(), "bodies well formed")?;
         let run = self.run(index, m, state.objects.len())?;
-        let inside = run.writes.iter().all(|&(object, value)| state.bounds[object].contain(value));
+        let inside = run.writes.iter().all(|&(object, value)| state.bounds[object].contains(value));
         ask(inside, "stores inside their object's bounds")?;
         let run_before = state.pending.last().map(|before| &before.run);
         let finished_before = run_before.map_or(true, |before| before.outcome.is_some());

@@ -4,6 +4,7 @@
 pub mod agreement;
 pub mod bodies;
 pub mod body;
+pub mod bounds_damage;
 pub mod calls;
 pub mod comparison;
 pub mod coverage;
@@ -17,6 +18,7 @@ pub mod library;
 pub mod limits;
 pub mod lists;
 pub mod observation;
+pub mod openings;
 pub mod random;
 pub mod serial;
 pub mod settings;

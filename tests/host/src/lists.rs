@@ -1,10 +1,11 @@
 //! Random lists of calls. What is drawn looks at the replica's state, so that most calls are accepted and the others
 //! miss by little.
 
-use crate::bodies::{broken, valid, value, Taste};
-use crate::calls::Call;
+use crate::bodies::{broken, valid, Taste};
+use crate::calls::{Call, Opening};
 use crate::independent::State;
 use crate::limits::{Limits, CLIENTS, LARGEST_BUDGET};
+use crate::openings::{miscounted, misplaced, Objects};
 use crate::random::Random;
 
 /// What one list is like.
@@ -12,6 +13,8 @@ use crate::random::Random;
 pub struct Mix {
     limits: Limits,
     taste: Taste,
+    /// How often an object has bounds of its own, of 100.
+    bounded: usize,
     clients: usize,
     /// How often a call has arguments that are probably refused, of 100.
     careless: usize,
@@ -34,6 +37,7 @@ impl Mix {
         Mix {
             limits,
             taste: Taste { most: limits.operations, hot: random.pick(&[1, 2, 2, 3, 5, 40]), wild: random.percent(30) },
+            bounded: random.pick(&[0, 30, 60, 100]),
             clients: random.pick(&[1, 2, 3, CLIENTS, CLIENTS]),
             careless: random.pick(&[0, 3, 10, 30]),
             in_order: random.pick(&[0, 40, 80, 100]),
@@ -42,7 +46,7 @@ impl Mix {
         }
     }
 
-    pub fn opening(&self, random: &mut Random) -> Call {
+    pub fn opening(&self, random: &mut Random) -> Opening {
         let most = self.limits.objects;
         let n = match random.below(6) {
             0 => 1,
@@ -58,19 +62,34 @@ impl Mix {
             6 => u32::MAX - random.below(6) as u32,
             _ => random.below(1000) as u32,
         };
-        Call::Open { n: n as u32, values: self.values(random, n), stamp }
+        self.objects(n).opening(random, stamp)
     }
 
-    fn values(&self, random: &mut Random, n: usize) -> Vec<i64> {
-        (0..n).map(|_| value(random, self.taste.wild)).collect()
+    fn objects(&self, n: usize) -> Objects {
+        Objects { n, wild: self.taste.wild, bounded: self.bounded }
     }
 
-    fn refused_opening(&self, random: &mut Random) -> Call {
+    fn refused_opening(&self, random: &mut Random) -> Opening {
+        let opening = self.opening(random);
+        match random.below(4) {
+            0 => miscounted(random, opening),
+            1 => misplaced(random, opening),
+            2 => {
+                let misplaced = misplaced(random, opening);
+                miscounted(random, misplaced)
+            }
+            _ => self.outnumbered(random),
+        }
+    }
+
+    /// As many values and bounds as one another, and another number of objects.
+    fn outnumbered(&self, random: &mut Random) -> Opening {
         let most = self.limits.objects;
         let any = random.below(400);
         let n = random.pick(&[0, 0, most, most + 1, most + 1, any, u32::MAX as usize]);
         let given = random.pick(&[0, most, most + 1, any, n.saturating_sub(1).min(400), n.min(400)]);
-        Call::Open { n: n as u32, values: self.values(random, given), stamp: random.next() as u32 }
+        let stamp = random.next() as u32;
+        Opening { n: n as u32, ..self.objects(given).opening(random, stamp) }
     }
 
     /// A call for a replica in this state; `None` is one not opened.
@@ -96,8 +115,8 @@ impl Mix {
             5 => Call::CloseReader { reader: self.reader(random, state, careless, true) },
             6 => Call::Find { client, sequence },
             7 => Call::ShowBody { client, sequence },
-            _ if random.percent(70) => self.refused_opening(random),
-            _ => self.opening(random),
+            _ if random.percent(70) => Call::Open(self.refused_opening(random)),
+            _ => Call::Open(self.opening(random)),
         }
     }
 

@@ -1,9 +1,9 @@
 //! What a call came across, by the independent states before and after it: the comparison's coverage.
 
 use crate::body::{decode, Operation, FLAWS, LARGEST_DIVISOR};
-use crate::calls::{Answer, Call};
+use crate::calls::{Answer, Call, Opening};
 use crate::coverage::Coverage;
-use crate::independent::{overlay, State, Transaction};
+use crate::independent::{overlay, Bounds, State, Transaction};
 use crate::limits::{Limits, LARGEST_BUDGET};
 use jobstore::raw::{Committed, Executed};
 
@@ -23,7 +23,9 @@ pub fn observe(
         None => coverage.count(if answer.refused() { "show body: empty" } else { "show body: bytes" }),
     }
     match (call, answer, before, after) {
-        (Call::Open { n, values, stamp }, ..) => opening(coverage, limits, *n, values.len(), *stamp, before.is_some()),
+        (Call::Open(given), Answer::Number(0), ..) => opened(coverage, limits, given, before.is_some()),
+        (Call::Open(given), Answer::Number(2), ..) => miscounted(coverage, limits, given),
+        (Call::Open(given), Answer::Number(15), ..) => misplaced(coverage, given),
         (Call::Early { body, .. }, Answer::Number(6), Some(before), _) => {
             let flaw = decode(body, limits.operations, before.objects.len()).unwrap_err();
             coverage.count(&format!("early 6: {flaw}"));
@@ -48,21 +50,52 @@ pub fn observe(
     coverage.count_if(after.is_some_and(versions), "an object with every version that it can have");
 }
 
-fn opening(coverage: &mut Coverage, limits: Limits, n: u32, given: usize, stamp: u32, again: bool) {
-    let most = limits.objects as u32;
-    if n == 0 {
-        coverage.count("open 2: n 0");
-    } else if n > most {
-        coverage.count_if(n as usize == given, "open 2: n above the limit with n values");
-    } else if n as usize != given {
-        coverage.count(if (n as usize) < given { "open 2: too many values" } else { "open 2: too few values" });
-    } else {
-        coverage.count_if(again, "open: again");
-        coverage.count_if(n == 1, "open: one object");
-        coverage.count_if(n == most, "open: as many objects as can be");
-        coverage.count_if(stamp == u32::MAX, "open: at the highest stamp");
+fn opened(coverage: &mut Coverage, limits: Limits, opening: &Opening, again: bool) {
+    coverage.count_if(again, "open: again");
+    coverage.count_if(opening.n == 1, "open: one object");
+    coverage.count_if(opening.n == limits.objects as u32, "open: as many objects as can be");
+    coverage.count_if(opening.stamp == u32::MAX, "open: at the highest stamp");
+    for (value, bounds) in bounded(opening) {
+        coverage.count_if(bounds == Bounds::WIDEST, "open: the widest bounds");
+        coverage.count_if(value == bounds.lower, "open: a start value at its lower bound");
+        coverage.count_if(value == bounds.upper, "open: a start value at its upper bound");
     }
-    coverage.count_if(n == most + 1, "open 2: n just above the limit");
+}
+
+/// Start values with their bounds, as far as there are all three.
+fn bounded(opening: &Opening) -> impl Iterator<Item = (i64, Bounds)> + '_ {
+    let bounds = opening.lower.iter().zip(&opening.upper).map(|(&lower, &upper)| Bounds { lower, upper });
+    opening.values.iter().copied().zip(bounds)
+}
+
+/// A cause counts where it is the only one for 2.
+fn miscounted(coverage: &mut Coverage, limits: Limits, opening: &Opening) {
+    let (n, most) = (opening.n as usize, limits.objects);
+    let lengths = [opening.values.len(), opening.lower.len(), opening.upper.len()];
+    let wrong: Vec<usize> = (0..3).filter(|&list| lengths[list] != n).collect();
+    coverage.count_if(n == 0 && wrong.is_empty(), "open 2: n 0");
+    coverage.count_if(n > most && wrong.is_empty(), "open 2: n above the limit");
+    coverage.count_if(n == most + 1 && wrong.is_empty(), "open 2: n just above the limit");
+    if let ([list], 1..) = (&wrong[..], n) {
+        let number = if lengths[*list] < n { "few" } else { "many" };
+        let kind = ["values", "lower bounds", "upper bounds"][*list];
+        coverage.count_if(n <= most, &format!("open 2: too {number} {kind}"));
+    }
+    let outside = bounded(opening).any(|(value, bounds)| !bounds.contains(value));
+    coverage.count_if(outside, "open 2: though a start value is outside its bounds");
+}
+
+fn misplaced(coverage: &mut Coverage, opening: &Opening) {
+    let outside: Vec<usize> =
+        bounded(opening).enumerate().filter(|(_, (value, bounds))| !bounds.contains(*value)).map(|at| at.0).collect();
+    coverage.count_if(outside == [0], "open 15: the first object alone");
+    coverage.count_if(outside == [opening.n as usize - 1], "open 15: the last object alone");
+    for (value, bounds) in bounded(opening) {
+        let ordered = bounds.ordered();
+        coverage.count_if(!ordered, "open 15: a lower bound above its upper");
+        coverage.count_if(ordered && value < bounds.lower, "open 15: a start value below its lower bound");
+        coverage.count_if(ordered && bounds.upper < value, "open 15: a start value above its upper bound");
+    }
 }
 
 fn accepted_body(coverage: &mut Coverage, limits: Limits, body: &[u8], n: usize) {
@@ -129,6 +162,9 @@ fn commit(coverage: &mut Coverage, committed: &Committed, place: usize, before: 
         coverage.count("final: run again, finished but a read changed");
         coverage.count_if(place == 0, FIRST_RUN_AGAIN);
         coverage.count_if(delivered.run.outcome != Some(outcome), "final: run again, with another outcome than early");
+        let outside = (delivered.run.outcome == Some(3), outcome == 3);
+        coverage.count_if(outside == (true, false), "final: run again, outside its bounds early alone");
+        coverage.count_if(outside == (false, true), "final: run again, outside its bounds now alone");
     } else {
         coverage.count_if(partly_run(delivered), "final: run again, partly run");
         coverage.count_if(!partly_run(delivered), "final: run again, not begun");
@@ -175,7 +211,7 @@ fn walk(coverage: &mut Coverage, stored: u32, before: &State, after: &State) {
 
 /// What each call may answer, refusal 1 of an opening aside: only damaged areas lead to it.
 const NUMBERS: &[(&str, &[u32])] = &[
-    ("open", &[0, 2]),
+    ("open", &[0, 2, 15]),
     ("early", &[0, 1, 3, 4, 5, 6, 7]),
     ("work", &[0, 1, 14]),
     ("final", &[0, 1, 3, 4, 8, 9]),
@@ -189,14 +225,27 @@ const EVENTS: &[&str] = &[
     "show body: bytes",
     "show body: empty",
     "open 2: n 0",
-    "open 2: n above the limit with n values",
+    "open 2: n above the limit",
     "open 2: n just above the limit",
+    "open 2: though a start value is outside its bounds",
+    "open 2: too few lower bounds",
+    "open 2: too few upper bounds",
     "open 2: too few values",
+    "open 2: too many lower bounds",
+    "open 2: too many upper bounds",
     "open 2: too many values",
+    "open 15: a lower bound above its upper",
+    "open 15: a start value above its upper bound",
+    "open 15: a start value below its lower bound",
+    "open 15: the first object alone",
+    "open 15: the last object alone",
+    "open: a start value at its lower bound",
+    "open: a start value at its upper bound",
     "open: again",
     "open: as many objects as can be",
     "open: at the highest stamp",
     "open: one object",
+    "open: the widest bounds",
     "early: all places taken",
     "early: the highest sequence number",
     "early: the lowest sequence number",
@@ -233,6 +282,12 @@ const EVENTS: &[&str] = &[
     "skip not taken",
     "skip taken",
     "store",
+    "store above its upper bound",
+    "store above its upper bound, after other stores",
+    "store at its lower bound",
+    "store at its upper bound",
+    "store below its lower bound",
+    "store below its lower bound, after other stores",
     "store of an object stored before",
     "subtract",
     "subtract that overflows",
@@ -242,6 +297,8 @@ const EVENTS: &[&str] = &[
     "final: outcome 1, run again",
     "final: outcome 2, kept",
     "final: outcome 2, run again",
+    "final: outcome 3, kept",
+    "final: outcome 3, run again",
     "final: a new version with the old value",
     "final: an old version is held for a reader",
     "final: done without a store",
@@ -250,6 +307,8 @@ const EVENTS: &[&str] = &[
     "final: lower numbers of the client leave",
     "final: run again, finished but a read changed",
     "final: run again, not begun",
+    "final: run again, outside its bounds early alone",
+    "final: run again, outside its bounds now alone",
     "final: run again, partly run",
     "final: run again, with another outcome than early",
     "final: stores several",

@@ -15,9 +15,10 @@ pub struct Object {
 }
 
 impl Object {
-    /// A test of its own: the method's is another one.
+    /// A test of its own, spelt out: it shares no code with the method's.
+    #[allow(clippy::manual_range_contains)]
     fn takes(&self, value: i64) -> bool {
-        (self.lower..=self.upper).contains(&value)
+        self.lower <= value && value <= self.upper
     }
 }
 

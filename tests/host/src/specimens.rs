@@ -3,8 +3,9 @@
 use crate::bodies::{valid, value, Taste};
 use crate::body::{encode, Operation};
 use crate::calls::Calls;
-use crate::independent::{Independent, State};
+use crate::independent::{Bounds, Independent, State};
 use crate::limits::{CLIENTS, STANDARD};
+use crate::openings::Objects;
 use crate::random::Random;
 
 #[derive(Clone, Copy, Debug)]
@@ -41,8 +42,9 @@ impl Specimen {
         let holding = self.readers - self.twins;
         let n = 1 << holding;
         let mut replica = Independent::new(STANDARD);
-        let values: Vec<i64> = (0..n).map(|_| value(random, true)).collect();
-        assert_eq!(replica.open(n as u32, &values, random.pick(&[0, 7, 1 << 31])), 0);
+        let stamp = random.pick(&[0, 7, 1 << 31]);
+        let opening = Objects { n, wild: true, bounded: 60 }.opening(random, stamp);
+        assert_eq!(replica.open(&opening), 0);
         let some: Vec<usize> = (0..n).filter(|_| random.percent(50)).collect();
         store(random, &mut replica, &some);
         let mut numbers: Vec<u32> = (0..STANDARD.readers as u32).collect();
@@ -66,13 +68,16 @@ fn opened(replica: &Independent) -> &State {
 
 /// Commits that give each of the objects a new version.
 fn store(random: &mut Random, replica: &mut Independent, objects: &[usize]) {
-    for some in objects.chunks(STANDARD.operations - 1) {
+    for some in objects.chunks(STANDARD.operations / 2) {
         let client = random.below(CLIENTS);
         let sequence = opened(replica).last[client] + random.between(1, 3) as u32;
-        let mut body = vec![Operation::Set(0, value(random, true))];
-        body.extend(some.iter().map(|&object| Operation::Store(0, object)));
+        let store = |&object: &usize| {
+            let Bounds { lower, upper } = opened(replica).bounds[object];
+            [Operation::Set(0, value(random, true).clamp(lower, upper)), Operation::Store(0, object)]
+        };
+        let body: Vec<Operation> = some.iter().flat_map(store).collect();
         assert_eq!(replica.early(client as u32, sequence, &encode(&body)), 0);
-        assert_eq!(replica.deliver_final(client as u32, sequence).number, 0);
+        assert_eq!(replica.deliver_final(client as u32, sequence).stored, some.len() as u32);
     }
 }
 

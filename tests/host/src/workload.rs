@@ -1,11 +1,17 @@
 //! What the benchmark runs: Bank's transfers, delivered early into a window of pending transactions and finally out of it.
 
 use crate::body::{encode, Operation};
+use crate::calls::Opening;
 use crate::random::Random;
 use jobstore::Key;
 use Operation::{Add, Load, Set, Store, Subtract};
 
 pub const OBJECTS: usize = 128;
+/// Every object's value at the start.
+pub const START: i64 = 500_000;
+/// Bounds that no transfer of a plan reaches, so that both kinds of plan do the same.
+pub const LOWER: i64 = 0;
+pub const UPPER: i64 = 1_000_000;
 /// The hot objects are the first ones.
 const HOT: usize = 8;
 const CLIENTS: usize = 16;
@@ -20,6 +26,8 @@ pub struct Workload {
     pub hot: usize,
     /// The chance in percent that a final delivery is not of the first in the optimistic order.
     pub late: usize,
+    /// Objects have bounds; else the widest.
+    pub bounded: bool,
 }
 
 /// A pending transaction is finally delivered, and a new one takes its place at the end.
@@ -30,9 +38,19 @@ pub struct Turn {
 }
 
 pub struct Plan {
+    pub opening: Opening,
     /// Fills the window.
     pub first: Vec<(Key, Vec<u8>)>,
     pub turns: Vec<Turn>,
+}
+
+fn opening(bounded: bool) -> Opening {
+    let plain = Opening::plain(&[START; OBJECTS], 0);
+    if bounded {
+        Opening { lower: vec![LOWER; OBJECTS], upper: vec![UPPER; OBJECTS], ..plain }
+    } else {
+        plain
+    }
 }
 
 /// One object gives an amount to each of one to three others, so that their sum stays.
@@ -66,7 +84,7 @@ fn next_key(random: &mut Random, pending: &[Key], last: &mut [u32; CLIENTS]) -> 
 }
 
 pub fn plan(workload: Workload) -> Plan {
-    let Workload { seed, pending: window, transactions, hot, late } = workload;
+    let Workload { seed, pending: window, transactions, hot, late, bounded } = workload;
     let mut random = Random::new(seed);
     let mut last = [0; CLIENTS];
     let mut pending = Vec::new();
@@ -84,5 +102,5 @@ pub fn plan(workload: Workload) -> Plan {
         Turn { committed, delivered, body: transfer(&mut random, hot) }
     };
     let turns = (0..transactions).map(turn).collect();
-    Plan { first, turns }
+    Plan { opening: opening(bounded), first, turns }
 }

@@ -2,7 +2,7 @@
 
 use jobstore::raw::{Committed, Executed, Value};
 use jobstore::Body;
-use jobstore_tests::calls::{Answer, Call, Calls};
+use jobstore_tests::calls::{Answer, Call, Calls, Opening};
 use jobstore_tests::comparison::{compare_lists, Comparison};
 use jobstore_tests::independent::Independent;
 use jobstore_tests::layout::{parse, print};
@@ -26,7 +26,7 @@ fn depot() -> Comparison {
     let mut all = Comparison::new(Library::new());
     let a = Body::new().load(0, 0).set(1, 5).add(0, 1).store(0, 0);
     let (b, c) = (Body::new().load(0, 1).store(0, 2), Body::new().load(0, 0).store(0, 1));
-    answers(&mut all, Call::Open { n: 3, values: vec![10, 20, 30], stamp: 0 }, Answer::Number(0));
+    answers(&mut all, Call::Open(Opening::plain(&[10, 20, 30], 0)), Answer::Number(0));
     for (client, body) in (1..).zip([a, b, c]) {
         answers(&mut all, Call::Early { client, sequence: 1, body: body.into() }, Answer::Number(0));
     }
@@ -60,6 +60,36 @@ fn the_small_depot_on_all_three() {
     delivers([(2, 1), (1, 1), (3, 1)], [15, 15, 20]);
 }
 
+/// A tank of 20 litres with bounds 0 and 50, and a job that pours into it, early or not: its outcome, and what is left.
+fn pours(litres: i64, worked: bool, outcome: u32, left: i64) {
+    let mut all = Comparison::new(Library::new());
+    let tank = Opening { lower: vec![0], upper: vec![50], ..Opening::plain(&[20], 0) };
+    answers(&mut all, Call::Open(tank), Answer::Number(0));
+    // The first store is inside: it goes with the job.
+    let body = Body::new().store(1, 0).load(0, 0).set(0, 20).set(1, litres).add(0, 1).store(0, 0).fail();
+    let body = if outcome == 0 { Body::new().load(0, 0).set(1, litres).add(0, 1).store(0, 0) } else { body };
+    answers(&mut all, Call::Early { client: 1, sequence: 1, body: body.into() }, Answer::Number(0));
+    if worked {
+        let operations = if outcome == 0 { 4 } else { 6 };
+        let executed = Executed { number: 0, operations, finished: 1 };
+        answers(&mut all, Call::Work { count: 100 }, Answer::Executed(executed));
+    }
+    let stored = u32::from(outcome == 0);
+    let committed = Committed { number: 0, outcome, kept: u32::from(worked), stamp: 1, stored };
+    answers(&mut all, Call::Final { client: 1, sequence: 1 }, Answer::Committed(committed));
+    answers(&mut all, Call::OpenReader { reader: 0 }, Answer::Number(0));
+    answers(&mut all, Call::Read { reader: 0, object: 0 }, Answer::Value(Value { number: 0, value: left }));
+}
+
+#[test]
+fn a_tank_with_bounds_on_all_three() {
+    for worked in [false, true] {
+        for (litres, outcome, left) in [(-20, 0, 0), (30, 0, 50), (-24, 3, 20), (-21, 3, 20), (31, 3, 20)] {
+            pours(litres, worked, outcome, left);
+        }
+    }
+}
+
 /// The other kind of limits, without the library: the method, the plain table and the layout among themselves.
 #[test]
 fn small_limits() {
@@ -67,7 +97,7 @@ fn small_limits() {
         let mut random = Random::new(seed().wrapping_add(list));
         let mix = Mix::new(&mut random, SMALL);
         let (mut independent, mut serial) = (Independent::new(SMALL), Serial::new(SMALL));
-        let mut call = mix.opening(&mut random);
+        let mut call = Call::Open(mix.opening(&mut random));
         for _ in 0..100 {
             let (answer, plain) = (independent.perform(&call), serial.perform(&call));
             assert_eq!(answer.seen(), plain, "seed {}: {call:?}", seed().wrapping_add(list));

@@ -3,7 +3,7 @@
 use crate::clock::{batched, Least};
 use crate::stages::Stage;
 use crate::turns::open;
-use jobstore_tests::calls::Calls;
+use jobstore_tests::calls::{Calls, Opening};
 use jobstore_tests::library::Library;
 use jobstore_tests::limits::{LARGEST_BUDGET, STANDARD};
 
@@ -15,12 +15,12 @@ pub struct Growth {
 impl Growth {
     pub fn new() -> Growth {
         let mut replica = Library::new();
-        assert_eq!(replica.open(1, &[1], 0), 0);
+        open(&mut replica, &Opening::plain(&[1], 0));
         let mut replicas = vec![("1 object, nothing pending".to_string(), replica.clone())];
-        open(&mut replica);
+        let plan = Stage::new(8, 0, 0).plan(1, STANDARD.pending);
+        open(&mut replica, &plan.opening);
         replicas.push(("128 objects, nothing pending".to_string(), replica.clone()));
-        let bodies = Stage { pending: 8, readers: 0, between: 0 }.plan(1, STANDARD.pending).turns;
-        for (pending, turn) in (1..=STANDARD.pending as u32).zip(&bodies) {
+        for (pending, turn) in (1..=STANDARD.pending as u32).zip(&plan.turns) {
             assert_eq!(replica.early(pending % 16, pending, &turn.body), 0);
             if pending == 8 || pending == 32 {
                 let mut finished = replica.clone();
@@ -30,7 +30,7 @@ impl Growth {
             }
         }
         for (readers, between) in [(1, 31), (2, 31), (4, 31), (7, 9), (7, 31), (7, 1200)] {
-            let stage = Stage { pending: 8, readers, between };
+            let stage = Stage::new(8, readers, between);
             let mut replica = Library::new();
             stage.begin(&mut replica, &stage.plan(1, 0));
             replicas.push((stage.name(&replica), replica));

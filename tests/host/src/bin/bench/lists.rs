@@ -71,7 +71,7 @@ pub fn lists() -> Vec<List> {
 impl List {
     fn new(hot: usize, late: usize, readers: u32) -> List {
         let transactions = readers as usize * BETWEEN + 300 + TURNS;
-        let plan = plan(Workload { seed: 1, pending: PENDING, transactions, hot, late });
+        let plan = plan(Workload { seed: 1, pending: PENDING, transactions, hot, late, bounded: false });
         let library = Run::new(Library::new(), &plan, readers);
         let independent = Run::new(Independent::new(STANDARD), &plan, readers);
         List { hot, late, readers, plan, library, independent }

@@ -13,6 +13,7 @@ use growth::Growth;
 use jobstore_tests::independent::Independent;
 use jobstore_tests::library::Library;
 use jobstore_tests::limits::STANDARD;
+use jobstore_tests::workload::{LOWER, UPPER};
 use rotation::Rotation;
 use stages::{Measured, Stage, CALLS, CLOSES, EARLY, FINAL, FIND, READ, WORK};
 
@@ -22,12 +23,12 @@ const PASSES: usize = 60;
 type Aims = Option<[f64; 5]>;
 
 const STAGES: [(Stage, Aims); 6] = [
-    (Stage { pending: 8, readers: 0, between: 0 }, Some([1.25, 1.3, 1.5, 1.6, 1.35])),
-    (Stage { pending: 8, readers: 7, between: 9 }, None),
-    (Stage { pending: 8, readers: 7, between: 31 }, Some([2.3, 2.5, 2.7, 2.9, 2.7])),
-    (Stage { pending: 8, readers: 7, between: 1200 }, Some([1.9, 2.1, 2.4, 2.6, 2.6])),
-    (Stage { pending: 31, readers: 0, between: 0 }, Some([2.2, 2.3, 2.8, 3.1, 2.3])),
-    (Stage { pending: 31, readers: 7, between: 31 }, None),
+    (Stage::new(8, 0, 0), Some([1.25, 1.3, 1.5, 1.6, 1.35])),
+    (Stage::new(8, 7, 9), None),
+    (Stage::new(8, 7, 31), Some([2.3, 2.5, 2.7, 2.9, 2.7])),
+    (Stage::new(8, 7, 1200), Some([1.9, 2.1, 2.4, 2.6, 2.6])),
+    (Stage::new(31, 0, 0), Some([2.2, 2.3, 2.8, 3.1, 2.3])),
+    (Stage::new(31, 7, 31), None),
 ];
 
 /// Both implementations at one stage.
@@ -44,6 +45,11 @@ impl Pair {
         Pair { aims, library, independent }
     }
 
+    /// The stage once more, with bounds that nothing reaches.
+    fn with_bounds((stage, aims): (Stage, Aims)) -> Pair {
+        Pair::new((Stage { bounded: true, ..stage }, aims))
+    }
+
     fn pass(&mut self) {
         self.library.pass();
         self.independent.pass();
@@ -55,8 +61,8 @@ impl Pair {
 }
 
 /// Of the three closes the dearest.
-fn print_aims(pairs: &[Pair], scan: f64) {
-    println!("Scans a call, 128 objects (close: the dearest of the three below)");
+fn print_aims(title: &str, pairs: &[Pair], scan: f64) {
+    println!("{title}");
     println!("{:<38} {:>6} {:>6} {:>6} {:>6} {:>6} {:>6}", "", "read", "find", "early", "work", "final", "close");
     let line = |name: &str, figures: &[f64]| {
         print!("{name:<38}");
@@ -101,12 +107,13 @@ fn machine() -> String {
 fn main() {
     let areas = Library::new();
     let mut pairs = STAGES.map(Pair::new);
+    let mut bounded = STAGES.map(Pair::with_bounds);
     let mut lists = lists::lists();
     let mut growth = Growth::new();
     let mut rotations = [STAGES[0].0, STAGES[2].0, STAGES[3].0].map(Rotation::new);
     let (mut scanned, mut wide) = (f64::MAX, f64::MAX);
     for _ in 0..PASSES {
-        pairs.iter_mut().for_each(Pair::pass);
+        pairs.iter_mut().chain(&mut bounded).for_each(Pair::pass);
         rotations.iter_mut().for_each(Rotation::pass);
         growth.pass();
         lists.iter_mut().for_each(lists::List::pass);
@@ -116,7 +123,9 @@ fn main() {
     println!("{}; of each call the least time of {PASSES} passes, less {:.0} ns of the clock", machine(), own_time());
     let bytes = areas.record.len() + areas.bodies.len();
     println!("bare scan of both areas ({bytes} bytes): {scanned:.0} ns; of 64 bytes a turn {wide:.0} ns\n");
-    print_aims(&pairs, scanned);
+    print_aims("Scans a call, 128 objects (close: the dearest of the three below)", &pairs, scanned);
+    println!();
+    print_aims(&format!("The same with bounds {LOWER} and {UPPER}, which nothing reaches"), &bounded, scanned);
     println!();
     print_calls(&pairs, scanned);
     println!();

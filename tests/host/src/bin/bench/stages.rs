@@ -17,13 +17,19 @@ pub struct Stage {
     pub readers: u32,
     /// Transactions between the openings of two readers: the more, the more versions an object has.
     pub between: usize,
+    pub bounded: bool,
 }
 
 impl Stage {
+    /// With the widest bounds.
+    pub const fn new(pending: usize, readers: u32, between: usize) -> Stage {
+        Stage { pending, readers, between, bounded: false }
+    }
+
     /// A plan that leads there and has these turns left.
     pub fn plan(&self, seed: u64, turns: usize) -> Plan {
         let transactions = self.readers as usize * self.between + BEHIND + turns;
-        plan(Workload { seed, pending: self.pending, transactions, hot: 0, late: 0 })
+        plan(Workload { seed, pending: self.pending, transactions, hot: 0, late: 0, bounded: self.bounded })
     }
 
     /// Yields how many of the plan's turns it took to get there.
@@ -126,7 +132,7 @@ impl<C: Calls + Clone> Measured<C> {
             batched(|index| start.find(self.key(index).client, self.key(index).sequence)),
             batched(|index| start.show_body(self.key(index).client, self.key(index).sequence).len()),
             batched(|_| copy.work(LARGEST_BUDGET)),
-            batched(|_| turns::open(&mut copy)),
+            batched(|_| turns::open(&mut copy, &self.plan.opening)),
             each_time_on(&without, |store| store.open_reader(newest)),
         ];
         times.extend(self.stage.closed().map(|reader| each_time_on(&open, |store| store.close_reader(reader))));
