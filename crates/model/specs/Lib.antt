@@ -29,3 +29,7 @@ pub mod ShapeBounds
 pub mod ShapeParts
 pub mod ShapeKept
 pub mod Computing
+pub mod Cases
+pub mod CallExamples
+pub mod ShapeExamples
+pub mod AnswerExamples
