@@ -29,9 +29,9 @@ use Rattle.model.specs.Replica as model
 use Rattle.model.specs.Replica.{Replica, opens, prune, pushed}
 use Rattle.model.specs.VersionLaws.{length-install}
 use Rattle.model.specs.Shape.{VersionsShape}
-use Rattle.layout.specs.Layout.{of-reader, object}
+use Rattle.layout.specs.Layout.{of-reader}
 use Rattle.layout.specs.Lawful.{Word}
-use Rattle.layout.specs.Offsets.{Sane, object-width, object-at}
+use Rattle.layout.specs.Offsets.{Sane, object-width, versions-width, object-at}
 use Rattle.layout.specs.Printable.{ValueFits, ObjectFits}
 use Rattle.layout.specs.Holds.{Holds, with-objects, holds-long}
 use Rattle.layout.specs.Reading.{object-part}
@@ -121,7 +121,7 @@ module _ {l : Limits} {b rs : List ℕ} {t n : ℕ} {os : List ℕ} {vs : List �
   new = entry-new os vs n i (k .low) (p .writes .names)
 
   -- the part lent, in the code's numbers: r is the block's first cell, w its width
-  module _ {r w : ℕ} (er : r ≡ object-at l o) (ew : w ≡ object-width l) where
+  module _ {r w : ℕ} (er : r ≡ object-at l o) (ew : w ≡ versions-width l) where
     abbrev a : ℕ
     a = r * 8
 
@@ -131,7 +131,7 @@ module _ {l : Limits} {b rs : List ℕ} {t n : ℕ} {os : List ℕ} {vs : List �
     ea : a ≡ object-at l o * 8
     ea = ap (λ (x : ℕ). x * 8) er
 
-    em : m ≡ object-width l * 8
+    em : m ≡ versions-width l * 8
     em = omega (arith, ew)
 
     pub block-inside : r * 8 + w * 8 ≤ length c
@@ -164,7 +164,7 @@ module _ {l : Limits} {b rs : List ℕ} {t n : ℕ} {os : List ℕ} {vs : List �
 
     -- the block came back as ys; the code's value went through its bits
     written : (ys : List ℕ) → ys ≡ uncells (block (l .readers) (prune (stamps (cells rs)) (pushed t (block-versions (cells (midOf a m c))) (some (toZ w64 (ofZ w64 v))))))
-        → ys ≡ uncells (object l .enc (prune (opens (u .readers)) (pushed t old (some v))))
+        → ys ≡ uncells (block (l .readers) (prune (opens (u .readers)) (pushed t old (some v))))
     written ys ey =
         ey ∙ ap (λ (z : ℤ). uncells (block (l .readers) (prune (stamps (cells rs)) (pushed t (block-versions (cells (midOf a m c))) (some z))))) (toZ-ofZ (is-sound .1))
         ∙ ap₂ (λ (q : List ℕ) (z : List Version). uncells (block (l .readers) (prune q (pushed t z (some v))))) opened (lent-versions (l .readers) old (midOf a m c) old-fits small lent)
@@ -177,7 +177,7 @@ module _ {l : Limits} {b rs : List ℕ} {t n : ℕ} {os : List ℕ} {vs : List �
         subst (λ (z : List (List Version)). Holds l (putMid a m c ys) (with-objects z u))
         (install-one t (opens (u .readers)) (entries i os vs) o (u .objects) new v
         ∙ ap (λ (e : List Entry). model.install t (opens (u .readers)) e (u .objects)) (sym (ap (λ (j : ℕ). entries j os vs) (add-one i) ∙ entries-end os vs i)))
-        (write-object l (k .sane) c now h o there x fit (putMid a m c ys) (ap (putMid a m c) (written ys ey) ∙ ap₂ (λ (a m : ℕ). putMid a m c (uncells (object l .enc x))) ea em))
+        (write-object l (k .sane) c now h o there x fit (putMid a m c ys) (ap (putMid a m c) (written ys ey) ∙ ap₂ (λ (a m : ℕ). putMid a m c (uncells (block (l .readers) x))) ea em))
 
 -- past the last entry
 pub install-end : (l : Limits) (b rs : List ℕ) (t n : ℕ) (os : List ℕ) (vs : List ℤ) (c : List ℕ) (i : ℕ) → i ≡ n → Installing l b rs t n os vs c i → Installs l t (entries n os vs) rs b c

@@ -9,6 +9,7 @@ ghost use Rattle.final_commit.specs.Install.{Ready, Installs};
 ghost use Rattle.final_commit.specs.Publish.{Few, Publishing, Publishes};
 
 // One entry after another: the objects passed have their new version. Those not written keep theirs, since by the shape check each of them is held.
+// Of an object its versions are lent, which end where its bounds begin.
 // The readers' cells are lent apart: two parts of one area cannot be lent at a time.
 fn install<'a>(
     records: &mut [u8],
@@ -24,12 +25,12 @@ fn install<'a>(
     ensures { λ _. ⌜ Installs l (timestamp .0) (entries count (now (wo .entry)) (now (wv .entry)))
         (now (readers .entry)) (now (records .entry)) (now (records .exit)) ⌝ }
 {
-    let width = layout::object_width(l) * 8;
+    let versions = layout::bounds_at(l) * 8;
     let stamp = timestamp.0 as u64;
     let mut i = 0;
     while i < count {
         let at = layout::object_at(l, wo[i]) * 8;
-        let end = at + width;
+        let end = at + versions;
         versions_push::push_version(&mut records[at..end], readers, l.readers, stamp, wv[i]);
         i += 1;
     }

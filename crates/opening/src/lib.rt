@@ -1,33 +1,53 @@
-// Opening: both lent areas are filled, whatever is in them, with the replica of the start values and the start timestamp.
+// Opening: both lent areas are filled, whatever is in them, with the replica of the start values, their bounds and the start timestamp.
 use model::Limits;
 ghost use mathlib.Core.Path.{_≡_};
-ghost use Rattle.model.specs.Calls.{plain};
+ghost use lib.ListN.{length};
+ghost use Rattle.model.specs.Calls.{by-values};
 ghost use Rattle.model.specs.Start.{start-of};
 ghost use Rattle.model.specs.Replica.{opened};
 ghost use Rattle.layout.specs.Layout.{print};
 ghost use Rattle.opening.specs.Opening.{Lent, Blank, Started};
 
-// Writes each object's one version to its block; the blocks are zeros.
-fn put_objects(blocks: &mut [u8], readers: usize, values: &[i64], timestamp: u64)
-    requires { ⌜ Blank readers (now blocks) (now values) ⌝ }
-    ensures { λ _. ⌜ Started readers timestamp (now (values .entry)) (now (blocks .exit)) ⌝ }
+// Writes each object's one version and its bounds; the objects are zeros.
+fn put_objects(
+    objects: &mut [u8],
+    readers: usize,
+    values: &[i64],
+    lower: &[i64],
+    upper: &[i64],
+    timestamp: u64,
+)
+    requires { ⌜ Blank readers (now objects) (now values) (now lower) (now upper) ⌝ }
+    ensures { λ _. ⌜ Started readers timestamp (now (values .entry)) (now (lower .entry)) (now (upper .entry)) (now (objects .exit)) ⌝ }
 {
     let width = versions::width(readers);
     let mut at = 0;
     let mut i = 0;
     while i < values.len() {
-        cells::put(blocks, at, 1);
-        cells::put(blocks, at + layout::NEWEST_STAMP, timestamp);
-        cells::put_signed(blocks, at + layout::NEWEST_VALUE, values[i]);
-        at += width;
+        cells::put(objects, at, 1);
+        cells::put(objects, at + layout::NEWEST_STAMP, timestamp);
+        cells::put_signed(objects, at + layout::NEWEST_VALUE, values[i]);
+        let bounds = at + width;
+        cells::put_signed(objects, bounds, lower[i]);
+        cells::put_signed(objects, bounds + 1, upper[i]);
+        at = bounds + 2;
         i += 1;
     }
 }
 
 // One zero fill of each area, then the cells that are not 0.
-pub fn fill(records: &mut [u8], bodies: &mut [u8], l: Limits, values: &[i64], timestamp: u32)
-    requires { ⌜ Lent l (now records) (now bodies) (now values) ⌝ }
-    ensures { λ _. ⌜ (now (records .exit), now (bodies .exit)) ≡ print l (opened l (start-of (plain (now (values .entry)) timestamp))) ⌝ }
+pub fn fill(
+    records: &mut [u8],
+    bodies: &mut [u8],
+    l: Limits,
+    values: &[i64],
+    lower: &[i64],
+    upper: &[i64],
+    timestamp: u32,
+)
+    requires { ⌜ Lent l (now records) (now bodies) (now values) (now lower) (now upper) ⌝ }
+    ensures { λ _. ⌜ (now (records .exit), now (bodies .exit))
+        ≡ print l (opened l (start-of (by-values (length (now (values .entry))) (now (values .entry)) (now (lower .entry)) (now (upper .entry)) timestamp))) ⌝ }
 {
     let records_end = records.len();
     cells::fill_zero(records, 0, records_end);
@@ -37,7 +57,14 @@ pub fn fill(records: &mut [u8], bodies: &mut [u8], l: Limits, values: &[i64], ti
     let n = values.len();
     let first = layout::object_at(l, 0) * 8;
     let end = layout::object_at(l, n) * 8;
-    put_objects(&mut records[first..end], l.readers, values, t);
+    put_objects(
+        &mut records[first..end],
+        l.readers,
+        values,
+        lower,
+        upper,
+        t,
+    );
     cells::put(records, layout::size_at(l), n as u64);
     cells::put(records, 0, t);
 }

@@ -30,8 +30,7 @@ fn others(random: &mut Random, areas: &Library, state: &State, field: &Field) ->
         Meaning::Unused => vec![flipped],
         Meaning::Free => vec![flipped, random.next()],
         Meaning::Inside(Bounds { lower, upper }) => {
-            let edges = [lower, upper, lower.wrapping_sub(1), upper.wrapping_add(1)].map(|value| value as u64);
-            [&edges[..], &[flipped]].concat()
+            [lower, upper, lower.wrapping_sub(1), upper.wrapping_add(1)].map(|edge| edge as u64).to_vec()
         }
         Meaning::Ruled => vec![0, 1, old.wrapping_add(1), old.wrapping_sub(1), flipped, small, wide],
     };

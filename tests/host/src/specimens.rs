@@ -43,7 +43,7 @@ impl Specimen {
         let n = 1 << holding;
         let mut replica = Independent::new(STANDARD);
         let stamp = random.pick(&[0, 7, 1 << 31]);
-        let opening = Objects { n, wild: false, bounded: 100 }.opening(random, stamp);
+        let opening = Objects { n, wild: true, bounded: 100 }.opening(random, stamp);
         assert_eq!(replica.open(&opening), 0);
         let some: Vec<usize> = (0..n).filter(|_| random.percent(50)).collect();
         store(random, &mut replica, &some);

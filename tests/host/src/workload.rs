@@ -9,7 +9,7 @@ use Operation::{Add, Load, Set, Store, Subtract};
 pub const OBJECTS: usize = 128;
 /// Every object's value at the start.
 pub const START: i64 = 500_000;
-/// Bounds that no transfer of a plan reaches, so that both kinds of plan do the same.
+/// Bounds that no plan's transfers reach, so that with them and without them the same is done.
 pub const LOWER: i64 = 0;
 pub const UPPER: i64 = 1_000_000;
 /// The hot objects are the first ones.
@@ -26,7 +26,7 @@ pub struct Workload {
     pub hot: usize,
     /// The chance in percent that a final delivery is not of the first in the optimistic order.
     pub late: usize,
-    /// Objects have bounds; else the widest.
+    /// Objects have bounds, which nothing reaches; else the widest.
     pub bounded: bool,
 }
 

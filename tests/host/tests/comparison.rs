@@ -60,32 +60,38 @@ fn the_small_depot_on_all_three() {
     delivers([(2, 1), (1, 1), (3, 1)], [15, 15, 20]);
 }
 
-/// A tank of 20 litres with bounds 0 and 50, and a job that pours into it, early or not: its outcome, and what is left.
-fn pours(litres: i64, worked: bool, outcome: u32, left: i64) {
+/// Operations carried out, outcome and objects stored.
+type Run = [u32; 3];
+const DONE: Run = [6, 0, 2];
+const OUTSIDE: Run = [5, 3, 0];
+
+/// A tank of 20 litres with bounds 0 and 50, and a gauge at 7. A job reads the tank, stores that at the gauge, and pours.
+fn pours(litres: i64, worked: bool, [operations, outcome, stored]: Run, table: [i64; 2]) {
     let mut all = Comparison::new(Library::new());
-    let tank = Opening { lower: vec![0], upper: vec![50], ..Opening::plain(&[20], 0) };
-    answers(&mut all, Call::Open(tank), Answer::Number(0));
-    // The first store is inside: it goes with the job.
-    let body = Body::new().store(1, 0).load(0, 0).set(0, 20).set(1, litres).add(0, 1).store(0, 0).fail();
-    let body = if outcome == 0 { Body::new().load(0, 0).set(1, litres).add(0, 1).store(0, 0) } else { body };
+    let widest = Opening::plain(&[20, 7], 0);
+    let opening = Opening { lower: vec![0, i64::MIN], upper: vec![50, i64::MAX], ..widest };
+    answers(&mut all, Call::Open(opening), Answer::Number(0));
+    let body = Body::new().load(0, 0).store(0, 1).set(1, litres).add(0, 1).store(0, 0).load(2, 1);
     answers(&mut all, Call::Early { client: 1, sequence: 1, body: body.into() }, Answer::Number(0));
     if worked {
-        let operations = if outcome == 0 { 4 } else { 6 };
         let executed = Executed { number: 0, operations, finished: 1 };
         answers(&mut all, Call::Work { count: 100 }, Answer::Executed(executed));
     }
-    let stored = u32::from(outcome == 0);
     let committed = Committed { number: 0, outcome, kept: u32::from(worked), stamp: 1, stored };
     answers(&mut all, Call::Final { client: 1, sequence: 1 }, Answer::Committed(committed));
     answers(&mut all, Call::OpenReader { reader: 0 }, Answer::Number(0));
-    answers(&mut all, Call::Read { reader: 0, object: 0 }, Answer::Value(Value { number: 0, value: left }));
+    for (object, value) in (0..).zip(table) {
+        answers(&mut all, Call::Read { reader: 0, object }, Answer::Value(Value { number: 0, value }));
+    }
 }
 
 #[test]
 fn a_tank_with_bounds_on_all_three() {
     for worked in [false, true] {
-        for (litres, outcome, left) in [(-20, 0, 0), (30, 0, 50), (-24, 3, 20), (-21, 3, 20), (31, 3, 20)] {
-            pours(litres, worked, outcome, left);
+        pours(-20, worked, DONE, [0, 20]);
+        pours(30, worked, DONE, [50, 20]);
+        for litres in [-24, -21, 31, i64::MAX - 20] {
+            pours(litres, worked, OUTSIDE, [20, 7]);
         }
     }
 }

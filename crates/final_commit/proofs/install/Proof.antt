@@ -12,17 +12,17 @@ use Rattle.final_commit.proofs.install.Statement.{statement}
 use Rattle.final_commit.proofs.install.Tie as tie
 
 abbrev Inv-loop : tie.InvT-loop
-Inv-loop records₀ readers l wo wv count width stamp i₀ records i = (i ≤ count) × Installing l records₀ readers stamp count wo wv records i
+Inv-loop records₀ readers l wo wv count versions stamp i₀ records i = (i ≤ count) × Installing l records₀ readers stamp count wo wv records i
 
 abbrev μ-loop : tie.MeasureT-loop
-μ-loop records₀ readers l wo wv count width stamp i₀ records i = count - i
+μ-loop records₀ readers l wo wv count versions stamp i₀ records i = count - i
 
 -- ---- waypoints
 
 abbrev start : tie.At-loop Inv-loop μ-loop → tie.Start Inv-loop μ-loop
 start k = k .before .before .before .before .before
 
-abbrev sized : tie.At-loop Inv-loop μ-loop → tie.After-object-width Inv-loop μ-loop
+abbrev sized : tie.At-loop Inv-loop μ-loop → tie.After-bounds-at Inv-loop μ-loop
 sized k = k .before .before
 
 turn : (c : tie.In-loop Inv-loop μ-loop) → (let k = c .before in let a = start k .args in Turn (a .l) (a .records .now) (a .readers .now) (a .timestamp .0) (a .count) (a .wo .now) (a .wv .now) (k .loop .records) (k .loop .i))
@@ -39,11 +39,11 @@ long k =
 
 -- ---- before the loop
 
-object-width-requires : tie.Need-object-width-requires Inv-loop μ-loop
-object-width-requires c κs = search needs
+bounds-at-requires : tie.Need-bounds-at-requires Inv-loop μ-loop
+bounds-at-requires c κs = search needs
 
-mul-width : tie.Need-mul-width Inv-loop μ-loop
-mul-width c = omega (arith, c .object-width .ensures, c .before .before .before .pre .0 .0 .readers)
+mul-versions : tie.Need-mul-versions Inv-loop μ-loop
+mul-versions c = omega (arith, c .bounds-at .ensures, c .before .before .before .pre .0 .0 .readers)
 
 cast-stamp : tie.Need-cast-stamp Inv-loop μ-loop
 cast-stamp c = search needs
@@ -72,7 +72,7 @@ add-end : tie.Need-add-end Inv-loop μ-loop
 add-end c =
     let k = c .before .before .before in
     let a = c .object-at .ensures in
-    omega (arith, sized k .object-width .ensures, start k .pre .0 .0 .readers)
+    omega (arith, sized k .bounds-at .ensures, start k .pre .0 .0 .readers)
 
 sub-push-version : tie.Need-sub-push-version Inv-loop μ-loop
 sub-push-version c = omega arith
@@ -84,7 +84,7 @@ part-push-version-end : tie.Need-part-push-version-end Inv-loop μ-loop
 part-push-version-end c =
     let at-turn = c .before .before in
     let k = at-turn .before in
-    block-inside (turn at-turn) (start k .pre .1) (c .object-at .ensures .exact) (sized k .object-width .ensures)
+    block-inside (turn at-turn) (start k .pre .1) (c .object-at .ensures .exact) (sized k .bounds-at .ensures)
 
 mul-push-version : tie.Need-mul-push-version Inv-loop μ-loop
 mul-push-version c = omega arith
@@ -99,7 +99,7 @@ push-version-requires c κs =
     let k = at-turn .before in
     let p = start k .pre .1 in
     let e = at-object .object-at .ensures .exact in
-    let w = sized k .object-width .ensures in
+    let w = sized k .bounds-at .ensures in
     (push-lent (turn at-turn) p e w, omega (arith, p .next), push-ok (turn at-turn) p e w)
 
 add-i : tie.Need-add-i Inv-loop μ-loop
@@ -113,7 +113,7 @@ loop-again c =
     let at-push = c .before .before in
     let at-object = at-push .before .before .before in
     let at-turn = at-object .before .before in
-    let w = sized (at-turn .before) .object-width .ensures in
+    let w = sized (at-turn .before) .bounds-at .ensures in
     (omega arith, record { holds = λ p. install-step (turn at-turn) p (at-object .object-at .ensures .exact) w _ (at-push .push-version .ensures) })
 
 -- ---- after it
@@ -133,8 +133,8 @@ install-spec =
     (tie.spec
     Inv-loop
     μ-loop
-    object-width-requires
-    mul-width
+    bounds-at-requires
+    mul-versions
     cast-stamp
     loop-holds
     mul-object-at

@@ -44,6 +44,8 @@ put-objects-requires c κs =
     let e = c .before .object-at2 in
     record {
       few = search needs;
+      lowers = p .lowers;
+      uppers = p .uppers;
       zeros = lent-blank (a .l) (a .records .now) (z .fill-zero .last .0) (p .record-area) (z .fill-zero .ensures) n (f .result) (e .result) (f .ensures .exact) (e .ensures .exact) (e .ensures .inside);
     }
 
@@ -74,8 +76,8 @@ returns c =
     let o = w .put-objects in
     let at = c .before .before .before .before .before .before .before .size-at in
     let y = w .before .before .before .before .before .before .fill-zero2 in
-    opened-areas (a .l) (p .sane) (a .values .now) (p .few) (o .ensures .fits) (a .timestamp) (search needs) _ _ _
-    (put-back (a .l) (a .records .now) (z .fill-zero .last .0) (p .record-area) (z .fill-zero .ensures) n (f .result) (e .result) (f .ensures .exact) (e .ensures .exact) (o .last .0) _ (o .ensures .whole))
+    opened-areas (a .l) (p .sane) (a .values .now) (a .lower .now) (a .upper .now) (p .few) (p .lowers) (p .uppers) (a .timestamp) (search (needs, z .before .before .before .before .fits)) (o .last .0) (o .ensures) _ _ _
+    (put-back (a .l) (a .records .now) (z .fill-zero .last .0) (p .record-area) (z .fill-zero .ensures) n (f .result) (e .result) (f .ensures .exact) (e .ensures .exact) (o .last .0) (o .last .0) refl)
     (at .result) (at .ensures .exact) (c .before .before .before .before .before .before .put .ensures) (c .before .before .put2 .ensures) (y .last .0)
     (y .ensures ∙ cleared (a .bodies .now) (length (a .bodies .now)) refl ∙ ap blank (p .body-area))
 

@@ -17,7 +17,7 @@ impl Growth {
         let mut replica = Library::new();
         open(&mut replica, &Opening::plain(&[1], 0));
         let mut replicas = vec![("1 object, nothing pending".to_string(), replica.clone())];
-        let plan = Stage::new(8, 0, 0).plan(1, STANDARD.pending);
+        let plan = Stage { pending: 8, readers: 0, between: 0, bounded: false }.plan(1, STANDARD.pending);
         open(&mut replica, &plan.opening);
         replicas.push(("128 objects, nothing pending".to_string(), replica.clone()));
         for (pending, turn) in (1..=STANDARD.pending as u32).zip(&plan.turns) {
@@ -30,7 +30,7 @@ impl Growth {
             }
         }
         for (readers, between) in [(1, 31), (2, 31), (4, 31), (7, 9), (7, 31), (7, 1200)] {
-            let stage = Stage::new(8, readers, between);
+            let stage = Stage { pending: 8, readers, between, bounded: false };
             let mut replica = Library::new();
             stage.begin(&mut replica, &stage.plan(1, 0));
             replicas.push((stage.name(&replica), replica));

@@ -23,12 +23,12 @@ const PASSES: usize = 60;
 type Aims = Option<[f64; 5]>;
 
 const STAGES: [(Stage, Aims); 6] = [
-    (Stage::new(8, 0, 0), Some([1.25, 1.3, 1.5, 1.6, 1.35])),
-    (Stage::new(8, 7, 9), None),
-    (Stage::new(8, 7, 31), Some([2.3, 2.5, 2.7, 2.9, 2.7])),
-    (Stage::new(8, 7, 1200), Some([1.9, 2.1, 2.4, 2.6, 2.6])),
-    (Stage::new(31, 0, 0), Some([2.2, 2.3, 2.8, 3.1, 2.3])),
-    (Stage::new(31, 7, 31), None),
+    (Stage { pending: 8, readers: 0, between: 0, bounded: false }, Some([1.25, 1.3, 1.5, 1.6, 1.35])),
+    (Stage { pending: 8, readers: 7, between: 9, bounded: false }, None),
+    (Stage { pending: 8, readers: 7, between: 31, bounded: false }, Some([2.3, 2.5, 2.7, 2.9, 2.7])),
+    (Stage { pending: 8, readers: 7, between: 1200, bounded: false }, Some([1.9, 2.1, 2.4, 2.6, 2.6])),
+    (Stage { pending: 31, readers: 0, between: 0, bounded: false }, Some([2.2, 2.3, 2.8, 3.1, 2.3])),
+    (Stage { pending: 31, readers: 7, between: 31, bounded: false }, None),
 ];
 
 /// Both implementations at one stage.

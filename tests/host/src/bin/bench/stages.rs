@@ -17,15 +17,11 @@ pub struct Stage {
     pub readers: u32,
     /// Transactions between the openings of two readers: the more, the more versions an object has.
     pub between: usize,
+    /// Objects have bounds, which nothing reaches; else the widest.
     pub bounded: bool,
 }
 
 impl Stage {
-    /// With the widest bounds.
-    pub const fn new(pending: usize, readers: u32, between: usize) -> Stage {
-        Stage { pending, readers, between, bounded: false }
-    }
-
     /// A plan that leads there and has these turns left.
     pub fn plan(&self, seed: u64, turns: usize) -> Plan {
         let transactions = self.readers as usize * self.between + BEHIND + turns;
