@@ -2,11 +2,31 @@
 use model::Limits;
 ghost use mathlib.Core.Path.{_≡_};
 ghost use lib.ListN.{length};
-ghost use Rattle.model.specs.Calls.{by-values};
+ghost use Rattle.model.specs.Lists.{all₂};
+ghost use Rattle.model.specs.Calls.{by-values, bounds-from, starts-inside};
 ghost use Rattle.model.specs.Start.{start-of};
 ghost use Rattle.model.specs.Replica.{opened};
 ghost use Rattle.layout.specs.Layout.{print};
 ghost use Rattle.opening.specs.Opening.{Lent, Blank, Started};
+
+// Does every start value lie inside its bounds? Then no lower bound is above its upper one either. Value by value, up to the first that does not.
+pub fn starts_inside(values: &[i64], lower: &[i64], upper: &[i64]) -> bool
+    requires { ⌜ (length (now lower) ≡ length (now values)) × (length (now upper) ≡ length (now values)) ⌝ }
+    ensures { λ r. ⌜ r ≡ all₂ starts-inside (bounds-from (now (lower .entry)) (now (upper .entry))) (now (values .entry)) ⌝ }
+{
+    let mut i = 0;
+    while i < values.len() {
+        let v = values[i];
+        if v < lower[i] {
+            return false;
+        }
+        if upper[i] < v {
+            return false;
+        }
+        i += 1;
+    }
+    true
+}
 
 // Writes each object's one version and its bounds; the objects are zeros.
 fn put_objects(
