@@ -9,13 +9,14 @@ use lib.ListN.{length}
 use Rattle.cells.specs.Cells.{Below}
 use Rattle.model.specs.declared.Limits.{Limits}
 use Rattle.model.specs.Interface.{Opening, by-values, Query, Call, opening, update, query, Yield, Answer, refused, yielded}
-use Rattle.model.specs.Calls.{done, seen, Facts, refusal, judged}
+use Rattle.model.specs.Lists.{all₂}
+use Rattle.model.specs.Calls.{done, seen, miscounted, bounds-from, starts-inside, Facts, refusal, judged}
 use Rattle.model.specs.Start.{start-of}
 use Rattle.model.specs.Serial as serial
 use Rattle.model.specs.Serial.{Serial}
 use Rattle.model.specs.Replica.{Replica, committed-objects, facts, perform, opened, call, calls}
 use Rattle.model.specs.ListLaws.{All}
-use Rattle.model.specs.Refusals.{opening-judged, Acceptable, opening-accepted}
+use Rattle.model.specs.Refusals.{opening-judged, opening-accepted}
 use Rattle.model.specs.Queries.{query-same}
 use Rattle.model.specs.ShapeCheck.{shaped}
 use Rattle.model.specs.ShapeKept.{Typed, call-shaped, opening-shaped}
@@ -104,9 +105,10 @@ module _ (l : Limits) (s : Sane l) where
   -- ---- an opening that is accepted on areas with any contents
 
   -- an opening by values within the limits is accepted on areas of the right lengths
-  pub opening-done : (n : ℕ) (vs los his : List ℤ) (t : ℕ) (a : Areas) → lengths l a ≡ true → Acceptable l n vs los his → act l (opening (by-values n vs los his t)) a .0 ≡ done
+  pub opening-done : (n : ℕ) (vs los his : List ℤ) (t : ℕ) (a : Areas) → lengths l a ≡ true → miscounted l n vs los his ≡ false → all₂ starts-inside (bounds-from los his) vs ≡ true
+      → act l (opening (by-values n vs los his t)) a .0 ≡ done
   unfolding act perform
-  opening-done n vs los his t a h k = rw (h, opening-accepted l (facts (parse l a)) n vs los his t k)
+  opening-done n vs los his t a h e k = rw (h, opening-accepted l (facts (parse l a)) n vs los his t e k)
 
   module _ (o : Opening) (a : Areas) (ok : act l (opening o) a .0 ≡ done) where
     abbrev pub begun : Replica

@@ -25,7 +25,7 @@ use Rattle.model.specs.Replica.{Pending, Replica, opens, held, prune, in
 use Rattle.model.specs.ListLaws.{All, all-mapped, all-keep, all-append, all-map, all-implies, map-keep, all-keep-with, all-both, length-keep}
 use Rattle.model.specs.VersionLaws.{length-install, Dated, opening-dated}
 use Rattle.model.specs.EarlyResults.{ordered-keep, ordered-append, walk-ordered, worked-ordered, sents, worked-sents, walk-sents}
-use Rattle.model.specs.Refusals.{accepted}
+use Rattle.model.specs.Refusals.{accepted, counted}
 use Rattle.model.specs.Tests.{neither, all-after-set}
 use Rattle.model.specs.Shape.{VersionsShape, bounds-fit, Shape}
 use Rattle.model.specs.ShapeCheck.{shaped, shaped-says}
@@ -109,20 +109,16 @@ module _ (l : Limits) where
   unfolding causes
   opening-start f (by-values n vs los his t) a e =
       let causes-none = accepted l f (opening (by-values n vs los his t)) e in
-      let i = neither (eqb n 0 || ltb (l .objects) n || not (eqb (length vs) n) || not (eqb (length los) n)) (not (eqb (length his) n)) (causes-none .0) in
-      let j = neither (eqb n 0 || ltb (l .objects) n || not (eqb (length vs) n)) (not (eqb (length los) n)) (i .0) in
-      let k = neither (eqb n 0 || ltb (l .objects) n) (not (eqb (length vs) n)) (j .0) in
-      let h = neither (eqb n 0) (ltb (l .objects) n) (k .0) in
-      let q = eqb-true (length vs) n (not-false (eqb (length vs) n) (k .1)) in
-      let lows = eqb-true (length los) n (not-false (eqb (length los) n) (j .1)) in
-      let highs = eqb-true (length his) n (not-false (eqb (length his) n) (i .1)) in
+      let k = counted l n vs los his (causes-none .0) in
+      let q = k .values in
+      let lows = k .lowers in
+      let highs = k .uppers in
       let inner = not-false (all₂ starts-inside (bounds-from los his) vs) (causes-none .1 .0) in
       let bs = length-bounds los his (lows ∙ sym highs) in
-      let m = ltb-false (l .objects) n (h .1) in
       let z = length-map {B = Version} vs (λ v. record { stamp = t; value = v }) in
       record {
-        some-object = omega (arith, z, least n (h .0) q);
-        few-objects = omega (arith, z);
+        some-object = omega (arith, z, k .some);
+        few-objects = omega (arith, z, k .few);
         timestamp = a .3;
         dated = opening-dated l f (by-values n vs los his t) e;
         values = fit vs (a .0);
@@ -137,10 +133,6 @@ module _ (l : Limits) where
         };
       }
     where
-      least : (n : ℕ) → eqb n 0 ≡ false → length vs ≡ n → 0 < length vs
-      least zero e q = absurd (true≢false e)
-      least (suc n) e q = omega arith
-
       fit : (vs : List ℤ) → all fits vs ≡ true → all (λ (v : Version). fits (v .value)) (start-of (by-values n vs los his t) .versions) ≡ true
       fit [] e = refl
       fit (v ∷ vs) e = let k = both (fits v) (all fits vs) e in rw (k .0, fit vs (k .1))

@@ -1,13 +1,33 @@
 // Opening: both lent areas are filled, whatever is in them, with the replica of the start values, their bounds and the start timestamp.
 use model::Limits;
 ghost use mathlib.Core.Path.{_≡_};
+ghost use mathlib.Core.Bool.{not};
 ghost use lib.ListN.{length};
 ghost use Rattle.model.specs.Lists.{all₂};
-ghost use Rattle.model.specs.Calls.{by-values, bounds-from, starts-inside};
+ghost use Rattle.model.specs.Calls.{by-values, miscounted, bounds-from, starts-inside};
 ghost use Rattle.model.specs.Start.{start-of};
 ghost use Rattle.model.specs.Replica.{opened};
 ghost use Rattle.layout.specs.Layout.{print};
 ghost use Rattle.opening.specs.Opening.{Lent, Blank, Started};
+
+// Are there 1 to as many objects as the limit, and as many values and bounds of each kind?
+pub fn counts_ok(l: Limits, n: usize, values: &[i64], lower: &[i64], upper: &[i64]) -> bool
+    ensures { λ r. ⌜ r ≡ not (miscounted l n (now (values .entry)) (now (lower .entry)) (now (upper .entry))) ⌝ }
+{
+    if n == 0 {
+        return false;
+    }
+    if l.objects < n {
+        return false;
+    }
+    if values.len() != n {
+        return false;
+    }
+    if lower.len() != n {
+        return false;
+    }
+    upper.len() == n
+}
 
 // Does every start value lie inside its bounds? Then no lower bound is above its upper one either. Value by value, up to the first that does not.
 pub fn starts_inside(values: &[i64], lower: &[i64], upper: &[i64]) -> bool

@@ -30,12 +30,20 @@ fn standard_shape(records: &[u8], bodies: &[u8]) -> bool
     shape::check(records, bodies, STANDARD)
 }
 
-// Open: n start values and a start timestamp; both areas are filled, whatever is in them.
-pub fn open(records: &mut [u8], bodies: &mut [u8], n: u32, values: &[i64], timestamp: u32) -> Reply
-    ensures { λ r. ⌜ Met standard (opening (by-values n (now (values .entry)) timestamp)) (now (records .entry), now (bodies .entry))
-        (reply r) (now (records .exit), now (bodies .exit)) ⌝ }
+// Open: n start values, a lower and an upper bound for each, and a start timestamp; both areas are filled, whatever is in them.
+pub fn open(
+    records: &mut [u8],
+    bodies: &mut [u8],
+    n: u32,
+    values: &[i64],
+    lower: &[i64],
+    upper: &[i64],
+    timestamp: u32,
+) -> Reply
+    ensures { λ r. ⌜ Met standard (opening (by-values n (now (values .entry)) (now (lower .entry)) (now (upper .entry)) timestamp))
+        (now (records .entry), now (bodies .entry)) (reply r) (now (records .exit), now (bodies .exit)) ⌝ }
 {
-    replica_calls::open(records, bodies, STANDARD, n, values, timestamp)
+    replica_calls::open(records, bodies, STANDARD, n, values, lower, upper, timestamp)
 }
 
 // Early delivery: the transaction becomes the last of the pending ones.

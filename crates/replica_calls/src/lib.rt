@@ -14,18 +14,20 @@ ghost use Rattle.layout.specs.Fit.{fit};
 ghost use Rattle.layout.specs.Contract.{Supported, Met};
 ghost use Rattle.queue.specs.Shown.{Shown};
 
-// Open: its lengths and counts are judged before anything is written.
+// Open: its lengths, its counts and its start values are judged, in this order, before anything is written.
 pub fn open(
     records: &mut [u8],
     bodies: &mut [u8],
     l: Limits,
     n: u32,
     values: &[i64],
+    lower: &[i64],
+    upper: &[i64],
     timestamp: u32,
 ) -> Reply
     requires { ⌜ Supported l ⌝ }
-    ensures { λ r. ⌜ Met l (opening (by-values n (now (values .entry)) timestamp)) (now (records .entry), now (bodies .entry))
-        (reply r) (now (records .exit), now (bodies .exit)) ⌝ }
+    ensures { λ r. ⌜ Met l (opening (by-values n (now (values .entry)) (now (lower .entry)) (now (upper .entry)) timestamp))
+        (now (records .entry), now (bodies .entry)) (reply r) (now (records .exit), now (bodies .exit)) ⌝ }
 {
     if records.len() != layout::record_length(l) {
         return Reply::Refused(1);
@@ -33,18 +35,14 @@ pub fn open(
     if bodies.len() != layout::bodies_length(l) {
         return Reply::Refused(1);
     }
-    let count = n as usize;
-    if count == 0 {
-        return Reply::Refused(2);
+    if opening::counts_ok(l, n as usize, values, lower, upper) {
+        if opening::starts_inside(values, lower, upper) {
+            opening::fill(records, bodies, l, values, lower, upper, timestamp);
+            return Reply::Done;
+        }
+        return Reply::Refused(15);
     }
-    if l.objects < count {
-        return Reply::Refused(2);
-    }
-    if values.len() != count {
-        return Reply::Refused(2);
-    }
-    opening::fill(records, bodies, l, values, timestamp);
-    Reply::Done
+    Reply::Refused(2)
 }
 
 // Early delivery. `shaped` is the shape check's answer, here and below: the crate above makes the check, once, with its limits folded in.
