@@ -13,7 +13,7 @@ use Rattle.model.specs.Calls.{plain, opening, Answer, done, last-timestamp}
 use Rattle.model.specs.Replica.{Replica, newest}
 use Rattle.model.specs.Limits.{standard}
 use Rattle.model.specs.ListLaws.{All}
-use Rattle.model.specs.ShapeKept.{Typed}
+use Rattle.model.specs.ShapeKept.{Typed, plain-typed}
 use Rattle.model.specs.Cases.{Case, outcome, cases, expected, cases-hold}
 use Rattle.layout.specs.Layout.{Areas, parse}
 use Rattle.layout.specs.OffsetLaws.{standard-sane}
@@ -43,11 +43,11 @@ all-fit : all (λ (x : Case). all fits (x .0)) cases ≡ true
 unfolding cases fits
 all-fit = refl
 
-module _ (a : Areas) (e : length (a .0) ≡ 28112) (f : length (a .1) ≡ 5664) where
+module _ (a : Areas) (e : length (a .0) ≡ 30160) (f : length (a .1) ≡ 5664) where
   trace : (x : Case) → Small x → all fits (x .0) ≡ true → Trace standard
   unfolding standard last-timestamp
   trace x h v =
-      trace-on standard standard-sane a (right-lengths standard a e f) (x .0) 0 (x .1) (h .0) (h .1) ((v, omega arith), h .2)
+      trace-on standard standard-sane a (right-lengths standard a e f) (x .0) 0 (x .1) (h .0) (h .1) (plain-typed (x .0) 0 v (omega arith), h .2)
 
   same-outcome : (x : Case) → Small x → all fits (x .0) ≡ true → outcome-on a x ≡ opened-first (outcome x)
   unfolding outcome-on outcome trace
@@ -60,7 +60,7 @@ module _ (a : Areas) (e : length (a .0) ≡ 28112) (f : length (a .1) ≡ 5664) 
       let k = both (all fits (x .0)) (all (λ (x : Case). all fits (x .0)) xs) v in
       ap₂ _∷_ (same-outcome x (h .0) (k .0)) (same-outcomes xs (h .1) (k .1))
 
--- STARRED CASES 1 to 8, on areas of 28,112 and 5,664 bytes with any contents: each opened and called as the paper says, the answers and the committed
+-- STARRED CASES 1 to 8, on areas of 30,160 and 5,664 bytes with any contents: each opened and called as the paper says, the answers and the committed
 -- values after the last are those that it prints
-pub cases-on-areas : (a : Areas) → length (a .0) ≡ 28112 → length (a .1) ≡ 5664 → map (outcome-on a) cases ≡ map opened-first expected
+pub cases-on-areas : (a : Areas) → length (a .0) ≡ 30160 → length (a .1) ≡ 5664 → map (outcome-on a) cases ≡ map opened-first expected
 cases-on-areas a e f = same-outcomes a e f cases all-small all-fit ∙ ap (map opened-first) cases-hold

@@ -14,7 +14,7 @@ use Rattle.model.specs.Calls.{plain, done, value, is-key, bytes-of, shown, caus
 use Rattle.model.specs.Start.{Start, start-of}
 use Rattle.model.specs.Replica.{Replica, committed-table, keyed, facts, opened, perform, call, calls}
 use Rattle.model.specs.ListLaws.{All}
-use Rattle.model.specs.Refusals.{accepted}
+use Rattle.model.specs.Refusals.{accepted, plain-counted, plain-inside}
 use Rattle.model.specs.VersionLaws.{Dated, opening-dated}
 use Rattle.model.specs.Correspondence.{picked-bytes}
 use Rattle.model.specs.ShapeCheck.{shaped}
@@ -85,7 +85,7 @@ right-lengths l a e f =
 -- on areas of the right lengths, with any contents, an opening within the limits starts one
 abbrev pub trace-on : (l : Limits) → Sane l → (a : Areas) → lengths l a ≡ true → (vs : List ℤ) (t : ℕ) (cs : List Call) → 1 ≤ length vs → length vs ≤ l .objects → All Typed (opening (plain vs t) ∷ cs) → Trace l
 trace-on l s a h vs t cs least most g =
-    record { sane = s; before = a; opening = plain vs t; later = cs; accepted = opening-done l s (length vs) vs t a h least most refl; typed = g }
+    record { sane = s; before = a; opening = plain vs t; later = cs; accepted = opening-done l s (length vs) vs _ _ t a h (plain-counted l vs least most) (plain-inside vs (g .0 .0)); typed = g }
 
 module _ {l : Limits} (x : Trace l) where
   abbrev s : Sane l

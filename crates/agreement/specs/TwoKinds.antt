@@ -10,6 +10,7 @@ use Rattle.arith.specs.Integer.{fits}
 use Rattle.operation.specs.Encode.{encode}
 use Rattle.operation.specs.declared.Operation.the-variants.{Load, Store}
 use Rattle.model.specs.Calls.{plain, Call, optimistic, execute, final, open-reader, last-timestamp}
+use Rattle.model.specs.ShapeKept.{plain-typed}
 use Rattle.model.specs.Start.{start-of}
 use Rattle.model.specs.Replica.{opened}
 use Rattle.model.specs.Limits.{standard, small}
@@ -45,12 +46,12 @@ module _ (a b : Areas) (e : lengths standard a ≡ true) (f : lengths small b �
   pub ahead : Trace standard
   unfolding standard last-timestamp fits
   ahead =
-      trace-on standard standard-sane a e start 0 works-ahead (omega arith) (omega arith) ((refl, omega arith), omega arith)
+      trace-on standard standard-sane a e start 0 works-ahead (omega arith) (omega arith) (plain-typed start 0 refl (omega arith), omega arith)
 
   pub behind : Trace small
   unfolding small last-timestamp fits
   behind =
-      trace-on small small-sane b f start 0 runs-late (omega arith) (omega arith) ((refl, omega arith), omega arith)
+      trace-on small small-sane b f start 0 runs-late (omega arith) (omega arith) (plain-typed start 0 refl (omega arith), omega arith)
 
   pub example-agrees : SameCommits (answers ahead, replica ahead) (answers behind, replica behind)
   unfolding ahead behind

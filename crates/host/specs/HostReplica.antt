@@ -20,7 +20,7 @@ use Rattle.model.specs.declared.Limits.{Limits}
 use Rattle.model.specs.Lists.{any, count}
 use Rattle.model.specs.Calls.{execute, final, executed, clients, last-timestamp, is-key, spent, first-cause, causes, refusal}
 use Rattle.model.specs.Replica as replica
-use Rattle.model.specs.Replica.{Pending, Replica, table, finished, walk, work-count, facts, commit, perform, call}
+use Rattle.model.specs.Replica.{Pending, Replica, committed-table, finished, walk, work-count, facts, commit, perform, call}
 use Rattle.model.specs.EarlyResults.{sents, worked-sents}
 use Rattle.host.specs.declared.Counters.{Counters}
 use Rattle.host.specs.declared.PendingTransaction.{PendingTransaction}
@@ -123,16 +123,16 @@ module _ (l : Limits) (u : Replica) where
 
   module _ (k : ℕ) where
     abbrev after : List Pending
-    after = replica.worked (table (u .objects)) k (u .pending)
+    after = replica.worked (committed-table u) k (u .pending)
 
     same-length : length after ≡ length (u .pending)
     same-length =
-        sym (length-map after (λ (j : Pending). j .sent)) ∙ ap length (worked-sents (table (u .objects)) k (u .pending)) ∙ length-map (u .pending) (λ (j : Pending). j .sent)
+        sym (length-map after (λ (j : Pending). j .sent)) ∙ ap length (worked-sents (committed-table u) k (u .pending)) ∙ length-map (u .pending) (λ (j : Pending). j .sent)
 
     -- work that is taken: the number of finished transactions that it answers, counted, gives the counters of the replica after it
     pub work-counted : refusal l (facts u) (execute k) ≡ 0
         → let f : ℕ = counters (call l u (execute k) .1) .finished in
-        (call l u (execute k) .0 ≡ executed (work-count (table (u .objects)) k (u .pending)) f) × (worked (counters u) f ≡ counters (call l u (execute k) .1))
+        (call l u (execute k) .0 ≡ executed (work-count (committed-table u) k (u .pending)) f) × (worked (counters u) f ≡ counters (call l u (execute k) .1))
     unfolding call perform
     work-counted e =
         let within : leb (count finished after) (length (u .pending)) ≡ true = le-leb _ _ (subst (λ (n : ℕ). count finished after ≤ n) same-length (count-within finished after)) in

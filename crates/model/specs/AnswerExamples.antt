@@ -8,7 +8,6 @@ use lib.IntN.{ℤ, pos, negsuc}
 use lib.ListN.{getD}
 use Rattle.operation.specs.Encode.{encode}
 use Rattle.operation.specs.declared.Operation.the-variants.{Load, Store, Set, Add}
-use Rattle.execution.specs.Bounds.{inside}
 use Rattle.model.specs.Calls.{Opening, by-values, plain, Call, opening, optimistic, execute, final, open-reader, read, close-reader, find, show-body}
 use Rattle.model.specs.Calls.{Answer, refused, done, executed, committed, value, found, body, numbers, seen, leaves, spent}
 use Rattle.model.specs.Start.{start-of}
@@ -75,7 +74,7 @@ pub final-deliveries :
     × (getD (delivered unbounded late) 1 [] ≡ pos 0 ∷ pos 0 ∷ pos 0 ∷ pos 8 ∷ pos 2 ∷ [])
     × (getD (delivered bounded early) 2 [] ≡ pos 0 ∷ pos 3 ∷ pos 1 ∷ pos 8 ∷ pos 0 ∷ [])
     × (getD (delivered bounded late) 1 [] ≡ pos 0 ∷ pos 3 ∷ pos 0 ∷ pos 8 ∷ pos 0 ∷ [])
-unfolding computing inside
+unfolding computing
 final-deliveries = (refl, refl, refl, refl)
 
 -- ---- what demand 3 compares

@@ -11,7 +11,7 @@ use Rattle.operation.specs.Body.{listed}
 use Rattle.operation.specs.Encode.{encode}
 use Rattle.operation.specs.declared.Operation.{Operation}
 use Rattle.operation.specs.declared.Operation.the-variants.{Load, Store, Set, Add, Subtract, Skip, Fail, Divide}
-use Rattle.execution.specs.Bounds.{Bounds, widest, inside}
+use Rattle.execution.specs.Bounds.{Bounds, widest}
 use Rattle.execution.specs.Run.{start}
 use Rattle.model.specs.declared.Limits.{Limits}
 use Rattle.model.specs.Calls.{Opening, by-values, plain, Call, opening, optimistic, execute, final, open-reader, read, close-reader, find, show-body}
@@ -76,7 +76,7 @@ programs =
     ∷ []
 
 pub operations-hold : map (λ x. ran (x .0)) programs ≡ map (λ x. x .1) programs
-unfolding computing inside ran programs
+unfolding computing ran programs
 operations-hold = refl
 
 -- ---- refusals
@@ -122,7 +122,7 @@ order =
     ∷ []
 
 pub order-holds : map (λ x. refusal small worst (x .0)) order ≡ map (λ x. x .1) order
-unfolding computing inside worst order
+unfolding computing worst order
 order-holds = refl
 
 -- what a refused call changes: nothing
@@ -191,7 +191,7 @@ pub opening-holds :
     (call small full (opening (plain (pos 10 ∷ negsuc 29 ∷ []) 7)) ≡ (done, fresh document-01))
     × (call small full (opening bounded) ≡ (done, fresh its-bounds))
     × (serial.opened small (start-of bounded) ≡ fresh-serial its-bounds)
-unfolding computing inside serial.opened full fresh fresh-serial
+unfolding computing serial.opened full fresh fresh-serial
 opening-holds = (refl, refl, refl)
 
 -- the bounds last until the next opening: through deliveries, refused and taken, a reader, work, a final delivery and an opening that is refused
@@ -209,7 +209,7 @@ lasting =
 pub bounds-last :
     (calls small (fresh its-bounds) lasting .1 .bounds ≡ its-bounds)
     × (serial.calls small (fresh-serial its-bounds) lasting .1 .bounds ≡ its-bounds)
-unfolding computing inside serial.beyond serial.run serial.ran serial.facts serial.commit serial.perform serial.call serial.calls fresh fresh-serial lasting
+unfolding computing serial.beyond serial.run serial.ran serial.facts serial.commit serial.perform serial.call serial.calls fresh fresh-serial lasting
 bounds-last = (refl, refl)
 
 unfoldable pub filling : List Call
@@ -221,7 +221,7 @@ filling =
 
 -- it is reached from an opening
 pub filled : calls small (opened small (start-of (plain (pos 10 ∷ pos 20 ∷ pos 30 ∷ []) 4294967294))) filling .1 ≡ full
-unfolding computing inside filling full
+unfolding computing filling full
 filled = refl
 
 -- n, with so many values, lower and upper bounds, all 0
@@ -272,7 +272,7 @@ unfoldable pub tried : Limits → Replica → Call → List ℤ × Replica
 tried l u c = let r : Answer × Replica = call l u c in (numbers c (r .0), r .1)
 
 pub refusals-hold : map (λ x. tried small full (x .0)) refusals ≡ map (λ x. (x .1, full)) refusals
-unfolding computing inside tried full refusals
+unfolding computing tried full refusals
 refusals-hold = refl
 
 -- Openings with the number that each yields: 0, or its first cause. The replica and the serial table are judged alike.
@@ -319,7 +319,7 @@ openings =
 pub openings-hold :
     (map (λ x. numbers (opening (x .0)) (call small full (opening (x .0)) .0)) openings ≡ map (λ x. pos (x .1) ∷ []) openings)
     × (map (λ x. numbers (opening (x .0)) (serial.call small (fresh-serial its-bounds) (opening (x .0)) .0)) openings ≡ map (λ x. pos (x .1) ∷ []) openings)
-unfolding computing inside serial.opened serial.perform serial.call full fresh-serial openings
+unfolding computing serial.opened serial.perform serial.call full fresh-serial openings
 openings-hold = (refl, refl)
 
 -- ---- calls that are taken, keys that leave, and limits
@@ -340,7 +340,7 @@ taken =
     ∷ []
 
 pub taken-hold : map (λ x. numbers (x .0) (call small full (x .0) .0)) taken ≡ map (λ x. x .1) taken
-unfolding computing inside full taken
+unfolding computing full taken
 taken-hold = refl
 
 -- A final delivery of (1, 2): keys of client 1 that are not above it leave, are spent, and no others; the others close up.
@@ -360,7 +360,7 @@ leaving =
     ∷ []
 
 pub leaving-holds : calls small (opened small (start-of (plain (pos 10 ∷ pos 20 ∷ pos 30 ∷ []) 0))) (map (λ x. x .0) leaving) .0 ≡ map (λ x. x .1) leaving
-unfolding computing inside leaving
+unfolding computing leaving
 leaving-holds = refl
 
 -- document 01, case 9, with the standard limits: work 4,096 and 4,097, the 32nd optimistic delivery and the 33rd, n 129 and 128; and readers 6 and 7,
@@ -376,5 +376,5 @@ borders =
     ∷ (listed (λ i. optimistic 15 (suc i) one) 32 ++ (opening (equal 129 129 129 129) ∷ opening (equal 128 128 128 128) ∷ []))
 
 pub borders-hold : calls standard (opened standard (start-of (plain (pos 10 ∷ pos 20 ∷ pos 30 ∷ []) 0))) borders .0 ≡ executed 0 0 ∷ refused 14 ∷ done ∷ refused 10 ∷ refused 6 ∷ (replicate 32 done ++ (refused 7 ∷ refused 2 ∷ done ∷ []))
-unfolding computing inside borders
+unfolding computing borders
 borders-hold = refl

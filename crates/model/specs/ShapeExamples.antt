@@ -11,7 +11,7 @@ use Rattle.operation.specs.Body.{listed}
 use Rattle.operation.specs.Encode.{encode}
 use Rattle.operation.specs.declared.Operation.the-variants.{Load, Store, Set, Add, Subtract}
 use Rattle.execution.specs.Entries.{Entry, entry}
-use Rattle.execution.specs.Bounds.{Bounds, widest, ordered, inside}
+use Rattle.execution.specs.Bounds.{Bounds, widest, ordered}
 use Rattle.execution.specs.Run.{Run, start}
 use Rattle.model.specs.Lists.{any, all}
 use Rattle.model.specs.Calls.{Opening, by-values, plain, Call, optimistic, execute, final, open-reader, close-reader}
@@ -23,7 +23,7 @@ use Rattle.model.specs.ShapeCheck.{versions-shaped, key-unspent, at-star
 use Rattle.model.specs.ShapeCheck.{checked, run-encoded, encoded, shaped}
 
 unfoldable checking : Unit {0}
-unfolding computing inside versions-shaped key-unspent at-start names-shaped stores-inside run-shaped in-order checked run-encoded encoded shaped
+unfolding computing versions-shaped key-unspent at-start names-shaped stores-inside run-shaped in-order checked run-encoded encoded shaped
 checking = tt
 
 -- ---- after each call

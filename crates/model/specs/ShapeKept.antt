@@ -13,13 +13,14 @@ use borrow.Author.Tests.{eq-eqb, eqb-true, leb-false, le-leb, lt-ltb, ltb-false,
 use Rattle.arith.specs.Integer.{fits}
 use Rattle.operation.specs.Body.{size, operations, is-well-formed}
 use Rattle.execution.specs.Entries.{Entry}
+use Rattle.execution.specs.Bounds.{widest}
 use Rattle.execution.specs.Run.{Table, start}
 use Rattle.execution.specs.ReadAgreement.{both}
 use Rattle.execution.specs.RunShape.{Entries, Shaped, start-shaped, AllInside}
 use Rattle.model.specs.declared.Limits.{Limits}
 use Rattle.model.specs.Lists.{keep, any, all, all₂}
 use Rattle.model.specs.Interface.{Opening, by-values, optimistic, execute, final, open-reader, close-reader, Call, opening, update, query}
-use Rattle.model.specs.Calls.{Transaction, Facts, bounds-from, starts-inside, is-key, leaves, causes, refusal, judged, clients, last-timestamp}
+use Rattle.model.specs.Calls.{Transaction, Facts, plain, bounds-from, starts-inside, is-key, leaves, causes, refusal, judged, clients, last-timestamp}
 use Rattle.model.specs.Start.{Version, Start, start-of}
 use Rattle.model.specs.Replica.{Pending, Replica, opens, held, prune, install, table, committed-table, program, worked, walk, keyed, stays, result, facts, commit, opened, perform, call, calls}
 use Rattle.model.specs.ListLaws.{All, all-mapped, all-keep, all-append, all-map, all-implies, map-keep, all-keep-with, all-both, length-keep}
@@ -50,9 +51,14 @@ nobody : (k : ℕ) → opens (replicate k none) ≡ []
 nobody zero = refl
 nobody (suc k) = nobody k
 
-all-same : (q : ℕ → Bool) (x : ℕ) → q x ≡ true → (k : ℕ) → all q (replicate k x) ≡ true
+all-same : {A : Type 0} (q : A → Bool) (x : A) → q x ≡ true → (k : ℕ) → all q (replicate k x) ≡ true
 all-same q x e zero = refl
 all-same q x e (suc k) = rw e (all-same q x e k)
+
+-- an opening by values alone
+pub plain-typed : (vs : List ℤ) (t : ℕ) → all fits vs ≡ true → t ≤ last-timestamp → Typed (opening (plain vs t))
+unfolding fits
+plain-typed vs t e h = (e, all-same fits (widest .lower) refl (length vs), all-same fits (widest .upper) refl (length vs), h)
 
 -- two lists of bounds side by side
 length-bounds : (los his : List ℤ) → length los ≡ length his → length (bounds-from los his) ≡ length los
