@@ -9,22 +9,26 @@ use native.Mathlib.Omega.{arith}
 use lib.Dec.{eqb, leb, ltb}
 use lib.ListN.{length, getD, drop}
 use lib.Seq.{slice}
-use borrow.Author.Tests.{lt-ltb, le-leb, ltb-true, leb-true, leb-false, eq-eqb}
+use borrow.Author.Tests.{lt-ltb, le-leb, ltb-true, leb-true, leb-false, eq-eqb, eqb-true, eqb-false}
 use Rattle.execution.specs.ReadAgreement.{both}
 use Rattle.cells.specs.Cells.{cells}
 use Rattle.cells.specs.Zeros.{zeros}
 use Rattle.model.specs.Lists.{any}
 use Rattle.model.specs.ListLaws.{any-has, or-left, or-right}
-use Rattle.versions.specs.Block.{width, versions-in, block-ok, between, lower, lowest, chain, chained}
+use Rattle.versions.specs.Block.{width, versions-in, block-ok, object-ok, between, lower, lowest, chain, chained}
 use Rattle.versions.specs.OnePass.{le-or-lt, lowest-le}
 use Rattle.versions.specs.BlockLoops.{ok-none, ok-many, ok-late, ok-used, ok-chain, ok-single, ok-single-no, chain-next, chain-loose, chain-end}
 use Rattle.shape_readers.specs.OpenReaders.{Open, Known, open-in}
 
 -- ---- what contracts say
 
--- the answer true is sound, whichever readers' cells d has
+-- the answer true is sound, whichever readers' cells d has: on one block
 abbrev pub Sound : ℕ → ℕ → ℕ → List ℕ → List ℕ → Bool → Type 0
 Sound n timestamp low d bs t = (rc : List ℕ) → Known rc d → low ≡ lowest (timestamp + 1) rc → t ≡ true → block-ok n timestamp rc (cells bs) ≡ true
+
+-- and on one object, its block and its bounds
+abbrev pub ObjectSound : ℕ → ℕ → ℕ → List ℕ → List ℕ → Bool → Type 0
+ObjectSound n timestamp low d os t = (rc : List ℕ) → Known rc d → low ≡ lowest (timestamp + 1) rc → t ≡ true → object-ok n timestamp rc (cells os) ≡ true
 
 -- ---- a version held
 
@@ -172,3 +176,11 @@ module _ (n timestamp : ℕ) (xs : List ℕ) (ex : length xs ≡ width n * 8) (k
       count (inl a) b = ok-none n timestamp [] xs ex k g (omega arith)
       count (inr a) (inl b) = chained (omega arith) b (leb f timestamp) (zeros (slice (1 + 2 * k) (width n) (cells xs))) refl refl
       count (inr a) (inr b) = ok-many n timestamp [] xs ex k g b
+
+-- so that a block that passes has one version
+pub alone-count : (n timestamp : ℕ) (xs : List ℕ) → length xs ≡ width n * 8 → block-ok n timestamp [] (cells xs) ≡ true → getD (cells xs) 0 0 ≡ 1
+alone-count n timestamp xs ex ok = by (eqb (getD (cells xs) 0 0) 1) refl
+  where
+    by : (t : Bool) → eqb (getD (cells xs) 0 0) 1 ≡ t → getD (cells xs) 0 0 ≡ 1
+    by true e = eqb-true (getD (cells xs) 0 0) 1 e
+    by false e = absurd (true≢false (sym ok ∙ sym (alone-many n timestamp xs ex (getD (cells xs) 0 0) refl (eqb-false (getD (cells xs) 0 0) 1 e))))

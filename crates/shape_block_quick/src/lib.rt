@@ -4,14 +4,17 @@
 // Why it is quick: the number of versions is a literal at each call, so that the versions and the cells behind them are straight code; the oldest
 // version is held by the earliest open reader or by none; and in between an index goes down the sorted readers as the versions get older.
 ghost use mathlib.Core.Path.{_≡_};
-ghost use mathlib.Core.Bool.{_&&_};
+ghost use mathlib.Core.Bool.{true, _&&_};
 ghost use mathlib.Core.List.{List, []};
 ghost use Prim.Native.Nat.{ℕ, _+_, _*_, _-_, _≤_};
 ghost use lib.Dec.{ltb, leb};
-ghost use lib.ListN.{length, getD};
+ghost use lib.ListN.{length, getD, drop};
 ghost use Rattle.cells.specs.Cells.{cells};
-ghost use Rattle.versions.specs.Block.{width, block-ok};
-ghost use Rattle.shape_block_quick.specs.Quick.{Sound};
+ghost use Rattle.execution.specs.Bounds.{ordered};
+ghost use Rattle.model.specs.Shape.{versions-inside};
+ghost use Rattle.versions.specs.Block.{width, object-cells, versions-in, block-versions, block-of, bounds-at, block-ok, bounds-ok, object-ok};
+ghost use Rattle.shape_block_quick.specs.Quick.{Sound, ObjectSound};
+ghost use Rattle.shape_block_quick.specs.Difference.{bounds-of};
 
 // The test where there are count versions, two or more. Version k is held where the reader found by going down from the last one's is above its
 // stamp; the oldest is held by the earliest reader, whose cell is low, or by none. Called with a literal count, the loop becomes straight code.
@@ -87,47 +90,139 @@ fn single(block: &[u8], readers: usize, low: u64) -> bool
     false
 }
 
-// The test on one object, by its number of versions. d and q are those of `shape_readers::sort_open`, low is the smallest open reader's cell, or timestamp + 1.
-// Most objects have one version: it is asked before the match. More than eight are left to `shape_versions`.
-pub fn block_quick(
+// Is the lower bound not above the upper one? Both as bits: what is compared are the signed numbers.
+fn in_order(lower: u64, upper: u64) -> bool
+    ensures { λ r. ⌜ r ≡ ordered (bounds-of lower upper) ⌝ }
+{
+    cells::signed(lower) <= cells::signed(upper)
+}
+
+// Is the value of each of the first count versions inside the bounds? One test a version: its difference to lower, modulo 2^64, is not above that of
+// upper. Bounds as far apart as 64 bits allow are not asked. Called with a literal count, the loop becomes straight code.
+fn all_inside(block: &[u8], count: usize, lower: u64, upper: u64) -> bool
+    requires versions { ⌜ (1 + 2 * count) * 8 ≤ length (now block) ⌝ }
+    requires order { ⌜ ordered (bounds-of lower upper) ≡ true ⌝ }
+    ensures { λ r. ⌜ r ≡ versions-inside (bounds-of lower upper) (versions-in count (drop 1 (cells (now (block .entry))))) ⌝ }
+{
+    let span = std::num::wrapping_sub_u64(upper, lower);
+    if span == u64::MAX {
+        return true;
+    }
+    let mut k = 0;
+    while k < count {
+        let v = cells::get(block, 2 + 2 * k);
+        if span < std::num::wrapping_sub_u64(v, lower) {
+            return false;
+        }
+        k += 1;
+    }
+    true
+}
+
+// The test on one object's block beside its bounds, which are in order, by the number of versions. Most objects have one: it is asked before the match.
+// More than eight are left to `shape_versions`.
+fn block_quick(
     block: &[u8],
     d: &[u64; 17],
     q: usize,
     readers: usize,
     timestamp: u64,
     low: u64,
+    lower: u64,
+    upper: u64,
 ) -> bool
     requires size { ⌜ length (now block) ≡ width readers * 8 ⌝ }
     requires sorted { ⌜ (q ≤ 16) × (getD (now d) 0 0 ≡ 0) ⌝ }
-    ensures { λ r. ⌜ Sound readers timestamp low (now (d .entry)) (now (block .entry)) r ⌝ }
+    requires order { ⌜ ordered (bounds-of lower upper) ≡ true ⌝ }
+    ensures rules { λ r. ⌜ Sound readers timestamp low (now (d .entry)) (now (block .entry)) r ⌝ }
+    ensures inside { λ r. ⌜ (r ≡ true → versions-inside (bounds-of lower upper) (block-versions (cells (now (block .entry)))) ≡ true) ⌝ }
 {
     let count = cells::get(block, 0);
     if count == 1 {
-        return single(block, readers, low);
+        return all_inside(block, 1, lower, upper) && single(block, readers, low);
     }
     if readers + 1 < count as usize {
         return false;
     }
     match count {
-        2 => quick(block, d, q, readers, timestamp, low, 2),
-        3 => quick(block, d, q, readers, timestamp, low, 3),
-        4 => quick(block, d, q, readers, timestamp, low, 4),
-        5 => quick(block, d, q, readers, timestamp, low, 5),
-        6 => quick(block, d, q, readers, timestamp, low, 6),
-        7 => quick(block, d, q, readers, timestamp, low, 7),
-        8 => full(block, d, readers, timestamp, low, 8),
+        2 => all_inside(block, 2, lower, upper) && quick(block, d, q, readers, timestamp, low, 2),
+        3 => all_inside(block, 3, lower, upper) && quick(block, d, q, readers, timestamp, low, 3),
+        4 => all_inside(block, 4, lower, upper) && quick(block, d, q, readers, timestamp, low, 4),
+        5 => all_inside(block, 5, lower, upper) && quick(block, d, q, readers, timestamp, low, 5),
+        6 => all_inside(block, 6, lower, upper) && quick(block, d, q, readers, timestamp, low, 6),
+        7 => all_inside(block, 7, lower, upper) && quick(block, d, q, readers, timestamp, low, 7),
+        8 => all_inside(block, 8, lower, upper) && full(block, d, readers, timestamp, low, 8),
         _ => false,
     }
 }
 
-// The shape check's rules on one object where no reader is open: one version, not above the timestamp. This one decides.
-pub fn alone(block: &[u8], readers: usize, timestamp: u64) -> bool
+// The test on one object. d and q are those of `shape_readers::sort_open`, low is the smallest open reader's cell, or timestamp + 1.
+pub fn object_quick(
+    object: &[u8],
+    d: &[u64; 17],
+    q: usize,
+    readers: usize,
+    timestamp: u64,
+    low: u64,
+) -> bool
+    requires size { ⌜ length (now object) ≡ object-cells readers * 8 ⌝ }
+    requires sorted { ⌜ (q ≤ 16) × (getD (now d) 0 0 ≡ 0) ⌝ }
+    ensures { λ r. ⌜ ObjectSound readers timestamp low (now (d .entry)) (now (object .entry)) r ⌝ }
+{
+    let w = versions::width(readers);
+    let end = w * 8;
+    let lower = cells::get(object, w);
+    let upper = cells::get(object, w + 1);
+    if in_order(lower, upper) {
+        return block_quick(&object[..end], d, q, readers, timestamp, low, lower, upper);
+    }
+    false
+}
+
+// The bounds' rules on one object of any number of versions that its block has room for: its lower bound is not above its upper one, and every version
+// is inside. This one decides.
+pub fn bounds_ok(object: &[u8], readers: usize) -> bool
+    requires size { ⌜ length (now object) ≡ object-cells readers * 8 ⌝ }
+    requires versions { ⌜ getD (block-of readers (cells (now object))) 0 0 ≤ readers + 1 ⌝ }
+    ensures { λ r. ⌜ r ≡ bounds-ok (bounds-at readers (cells (now (object .entry)))) (block-of readers (cells (now (object .entry)))) ⌝ }
+{
+    let w = versions::width(readers);
+    let end = w * 8;
+    let lower = cells::get(object, w);
+    let upper = cells::get(object, w + 1);
+    if in_order(lower, upper) {
+        let block = &object[..end];
+        return all_inside(block, cells::get(block, 0) as usize, lower, upper);
+    }
+    false
+}
+
+// The versions' rules on one block where no reader is open: one version, not above the timestamp. This one decides.
+fn block_alone(block: &[u8], readers: usize, timestamp: u64) -> bool
     requires { ⌜ length (now block) ≡ width readers * 8 ⌝ }
     ensures { λ r. ⌜ r ≡ block-ok readers timestamp [] (cells (now (block .entry))) ⌝ }
 {
     if cells::get(block, 0) == 1 {
         if cells::get(block, 1) <= timestamp {
             return cells::cells_zero(block, 3, versions::width(readers));
+        }
+    }
+    false
+}
+
+// The shape check's rules on one object where no reader is open: its one version, and that one inside the bounds. This one decides.
+pub fn alone(object: &[u8], readers: usize, timestamp: u64) -> bool
+    requires { ⌜ length (now object) ≡ object-cells readers * 8 ⌝ }
+    ensures { λ r. ⌜ r ≡ object-ok readers timestamp [] (cells (now (object .entry))) ⌝ }
+{
+    let w = versions::width(readers);
+    let end = w * 8;
+    let block = &object[..end];
+    if block_alone(block, readers, timestamp) {
+        let lower = cells::get(object, w);
+        let upper = cells::get(object, w + 1);
+        if in_order(lower, upper) {
+            return all_inside(block, 1, lower, upper);
         }
     }
     false

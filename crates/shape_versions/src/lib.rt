@@ -1,4 +1,4 @@
-// The shape check of objects' versions, each object in a block of cells as `versions` has them.
+// The shape check of objects' versions and bounds, each object a block of cells and two bounds behind it, as `versions` has them.
 //
 // Three forms: `objects_alone` where no reader is open, `shape_versions_quick` beside open readers, and `objects_general`, which asks the readers version
 // by version, for what the quick test does not pass: a damaged area, or versions and readers in numbers that it has no arm for.
@@ -7,7 +7,7 @@ ghost use mathlib.Core.List.{[]};
 ghost use Prim.Native.Nat.{_+_, _*_, _-_, _≤_, _<_, _^_};
 ghost use lib.ListN.{length};
 ghost use Rattle.cells.specs.Cells.{cells};
-ghost use Rattle.versions.specs.Block.{width, block-ok, blocks-ok, lower, lowest, chained, Lent, LentBlocks};
+ghost use Rattle.versions.specs.Block.{object-cells, block-ok, object-ok, blocks-ok, lower, lowest, chained, Lent, LentBlocks};
 
 // One step of `lowest_open`: c where it is an open reader's cell below top, else top.
 fn lower_of(top: u64, c: u64) -> u64
@@ -57,7 +57,7 @@ fn chain_ok(block: &[u8], snapshots: &[u8], readers: usize, count: usize, low: u
     upper < low
 }
 
-// The shape check's rules on one object, low being the smallest open reader's cell, or timestamp + 1.
+// The versions' rules on one block, low being the smallest open reader's cell, or timestamp + 1.
 fn block_ok_general(
     block: &[u8],
     snapshots: &[u8],
@@ -101,7 +101,20 @@ fn block_ok(block: &[u8], snapshots: &[u8], readers: usize, timestamp: u64, low:
     block_ok_general(block, snapshots, readers, timestamp, low)
 }
 
-// The same on n objects, whose blocks stand one after another, up to the first that fails.
+// The shape check's rules on one object: its block, and behind it its bounds, which are asked where the count was found to be one that has room.
+fn object_ok(object: &[u8], snapshots: &[u8], readers: usize, timestamp: u64, low: u64) -> bool
+    requires lent { ⌜ (length (now snapshots) ≡ readers * 8) × (length (now object) ≡ object-cells readers * 8) ⌝ }
+    requires low { ⌜ low ≡ lowest (timestamp + 1) (cells (now snapshots)) ⌝ }
+    ensures { λ r. ⌜ r ≡ object-ok readers timestamp (cells (now (snapshots .entry))) (cells (now (object .entry))) ⌝ }
+{
+    let end = versions::width(readers) * 8;
+    if block_ok(&object[..end], snapshots, readers, timestamp, low) {
+        return shape_block_quick::bounds_ok(object, readers);
+    }
+    false
+}
+
+// The same on n objects, which stand one after another, up to the first that fails.
 fn objects_general(
     blocks: &[u8],
     snapshots: &[u8],
@@ -114,12 +127,12 @@ fn objects_general(
     requires low { ⌜ low ≡ lowest (timestamp + 1) (cells (now snapshots)) ⌝ }
     ensures { λ r. ⌜ r ≡ blocks-ok readers timestamp (cells (now (snapshots .entry))) n (cells (now (blocks .entry))) ⌝ }
 {
-    let w = versions::width(readers) * 8;
+    let w = versions::object_cells(readers) * 8;
     let mut at = 0;
     let mut left = n;
     while 0 < left {
         let end = at + w;
-        if block_ok(&blocks[at..end], snapshots, readers, timestamp, low) {
+        if object_ok(&blocks[at..end], snapshots, readers, timestamp, low) {
             at = end;
             left -= 1;
         } else {
@@ -131,10 +144,10 @@ fn objects_general(
 
 // The same where no reader is open: a loop of its own, with registers enough for the one form that is left.
 fn objects_alone(blocks: &[u8], readers: usize, n: usize, timestamp: u64) -> bool
-    requires { ⌜ (length (now blocks) ≡ n * (width readers * 8)) × (readers < 2 ^ 32) ⌝ }
+    requires { ⌜ (length (now blocks) ≡ n * (object-cells readers * 8)) × (readers < 2 ^ 32) ⌝ }
     ensures { λ r. ⌜ r ≡ blocks-ok readers timestamp [] n (cells (now (blocks .entry))) ⌝ }
 {
-    let w = versions::width(readers) * 8;
+    let w = versions::object_cells(readers) * 8;
     let mut at = 0;
     let mut left = n;
     while 0 < left {
@@ -149,7 +162,7 @@ fn objects_alone(blocks: &[u8], readers: usize, n: usize, timestamp: u64) -> boo
     true
 }
 
-// The shape check's rules on n objects, whose blocks stand one after another: by the form for no open reader, else by the quick test, and by the
+// The shape check's rules on n objects, which stand one after another: by the form for no open reader, else by the quick test, and by the
 // general form where that does not pass. With 7 readers the quick test passes wherever the rules are met, so that only a damaged area is looked at
 // twice.
 pub fn objects_ok(blocks: &[u8], snapshots: &[u8], readers: usize, n: usize, timestamp: u64) -> bool

@@ -2,19 +2,19 @@
 use mathlib.Core.Path.{_≡_, refl, sym, ap, ap₂, _∙_}
 use mathlib.Core.Bool.{Bool, true, false, cond}
 use mathlib.Core.List.{List, [], _∷_, map}
-use Prim.Native.Nat.{ℕ, _+_, _-_, _≤_, _<_}
+use Prim.Native.Nat.{ℕ, _+_, _-_, _*_, _≤_, _<_}
 use native.Mathlib.Omega.{arith}
 use lib.IntN.{ℤ}
-use lib.ListN.{length, take, length-map}
+use lib.ListN.{length, take}
 use borrow.Author.Tests.{lt-ltb}
 use Rattle.cells.specs.Cells.{cells, Below}
-use Rattle.execution.specs.Run.{Table, table-of, over}
+use Rattle.execution.specs.Run.{Table, over}
 use Rattle.execution.specs.Arrays.{capacity}
 use Rattle.model.specs.declared.Limits.{Limits}
 use Rattle.model.specs.Lists.{count}
 use Rattle.model.specs.Calls.{Transaction, execute, executed, refused, refusal, causes, most-work}
 use Rattle.model.specs.Serial.{Version}
-use Rattle.model.specs.Replica.{Pending, Replica, opens, newest, table, program, finished, advance, used, work-count, perform}
+use Rattle.model.specs.Replica.{Pending, Replica, opens, committed-table, program, finished, advance, used, work-count, perform}
 use Rattle.model.specs.ListLaws.{All, all-implies, count-few}
 use Rattle.model.specs.EarlyResults.{sents, worked-sents}
 use Rattle.model.specs.Shape.{VersionsShape, Shape}
@@ -27,7 +27,7 @@ use Rattle.layout.specs.Bodies.{same-bodies}
 use Rattle.layout.specs.Fit.{fit, shape-fits, fit-holds, fit-bodies, fit-shape}
 use Rattle.layout.specs.Act.{act}
 use Rattle.layout.specs.Areas.{act-refused, act-accepted}
-use Rattle.rows.specs.Committed.{Laid, Committed, committed-back, committed-table}
+use Rattle.rows.specs.Committed.{Laid, Committed, committed-count, committed-back}
 use Rattle.speculative_execution.specs.Passing.{counted-most, all-worked, after-work, Worked, accepted, new-shape}
 use Rattle.speculative_execution.specs.LentAreas.{Begun}
 
@@ -87,22 +87,21 @@ module _ {l : Limits} {records bodies : List ℕ} (k : Asked l records bodies) (
   pub readable : Laid l records
   readable = record { whole = holds-long l s records u holds; few = omega (arith, get-size l s records u holds, shape .few-objects); room = k .objects }
 
-  -- the committed state, as the local array has it, is the first table
+  -- the committed table, as the local array has it, is the first one
   module _ {n : ℕ} {vs : List ℤ} (v : Committed l (cells records) n vs) (c : ℕ) (low : c ≤ most-work) where
     some-version : All (λ (x : List Version). 0 < length x) (u .objects)
     some-version =
         all-implies (VersionsShape (u .timestamp) (opens (u .readers))) (λ (x : List Version). 0 < length x) (λ x h. h .least) (u .objects) (shape .versions)
 
-    pub begun : Begun l records bodies (take n vs) c
+    pub begun : Begun l records bodies (take (n * 3) vs) c
     begun =
-        let e = committed-back l s records u holds some-version n vs v .1 in
         record {
           sane = s;
           few = k .few;
           fit = k .fit;
           allowed = low;
-          table = ap table-of e ∙ committed-table u;
-          size = ap length e ∙ length-map (u .objects) (λ (x : List Version). newest x .value);
+          table = committed-back l s records u holds some-version v;
+          size = committed-count l s records u holds some-version v;
         }
 
   module _ (c : ℕ) (low : c ≤ most-work) {ys : List ℕ} {n f : ℕ} (w : Worked l u c ys n f) where
@@ -111,15 +110,15 @@ module _ {l : Limits} {records bodies : List ℕ} (k : Asked l records bodies) (
     small-counts =
         let most = shape .few-pending in
         let p = s .pending in
-        let as-many = same-length (all-worked u c) (u .pending) (worked-sents (table (u .objects)) c (u .pending)) in
-        (omega (arith, w .operations, count-most (table (u .objects)) c (u .pending)), omega (arith, w .finished, count-few finished (all-worked u c)))
+        let as-many = same-length (all-worked u c) (u .pending) (worked-sents (committed-table u) c (u .pending)) in
+        (omega (arith, w .operations, count-most (committed-table u) c (u .pending)), omega (arith, w .finished, count-few finished (all-worked u c)))
 
     new-bodies : HoldsBodies l bodies (after-work u c)
     new-bodies =
         same-bodies l s bodies u (fit-bodies l s (records, bodies) b (k .fit)) (after-work u c) (shape-fits l s (after-work u c) (new-shape s (k .few) shape c low))
-        (same-bytes (all-worked u c) (u .pending) (worked-sents (table (u .objects)) c (u .pending)))
+        (same-bytes (all-worked u c) (u .pending) (worked-sents (committed-table u) c (u .pending)))
 
-    acted : act l (execute c) (records, bodies) ≡ (executed (work-count (table (u .objects)) c (u .pending)) (count finished (all-worked u c)), print l (after-work u c))
+    acted : act l (execute c) (records, bodies) ≡ (executed (work-count (committed-table u) c (u .pending)) (count finished (all-worked u c)), print l (after-work u c))
     unfolding perform
     acted = act-accepted l (execute c) (records, bodies) (k .fit) (accepted s (k .few) shape c low)
 

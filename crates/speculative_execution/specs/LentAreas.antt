@@ -14,7 +14,7 @@ use Rattle.execution.specs.Run.{table-of, object-count}
 use Rattle.execution.specs.Arrays.{capacity}
 use Rattle.model.specs.declared.Limits.{Limits}
 use Rattle.model.specs.Calls.{most-work}
-use Rattle.model.specs.Replica.{Pending, Replica, table}
+use Rattle.model.specs.Replica.{Pending, Replica, committed-table}
 use Rattle.model.specs.Shape.{Shape}
 use Rattle.layout.specs.Layout.{row, row-of, body-of, parse}
 use Rattle.layout.specs.Offsets.{Sane, pending-at, row-width, row-at, body-width, body-at}
@@ -28,13 +28,13 @@ use Rattle.speculative_turn.specs.declared.Advanced.{Advanced}
 use Rattle.speculative_turn.specs.Advance.{Ready, Leaves}
 use Rattle.speculative_execution.specs.Passing.{nobody, formed-at, Going, Worked, going-first, going-last, lent-row, turn-ready, turn-most, turn-next, turn-last}
 
--- areas that passed the shape check, beside a table of the committed values and a budget
+-- areas that passed the shape check, beside the committed table and a budget
 pub record Begun (l : Limits) (records bodies : List ℕ) (vs : List ℤ) (budget : ℕ) : Type 0 where
   pub sane : Sane l
   pub few : l .operations ≤ capacity
   pub fit : fit l (records, bodies) ≡ true
   pub allowed : budget ≤ most-work
-  pub table : table-of vs ≡ table (parse l (records, bodies) .objects)
+  pub table : table-of vs ≡ committed-table (parse l (records, bodies))
   pub size : object-count vs ≡ length (parse l (records, bodies) .objects)
 
 module _ {l : Limits} (s : Sane l) (records bodies : List ℕ) (f : fit l (records, bodies) ≡ true) where

@@ -22,7 +22,7 @@ use Rattle.execution.specs.Arrays.{capacity}
 use Rattle.model.specs.declared.Limits.{Limits}
 use Rattle.model.specs.Lists.{count}
 use Rattle.model.specs.Calls.{Transaction, execute, refusal, causes, most-work}
-use Rattle.model.specs.Replica.{Pending, Replica, table, program, finished, advance, used, worked, work-count, pending-of, facts, perform, call}
+use Rattle.model.specs.Replica.{Pending, Replica, committed-table, program, finished, advance, used, worked, work-count, pending-of, facts, perform, call}
 use Rattle.model.specs.ListLaws.{all-map, all-drop, all-in, count-join}
 use Rattle.model.specs.EarlyResults.{NotBegun, Ordered, worked-sents}
 use Rattle.model.specs.Shape.{size-of, Shape}
@@ -136,10 +136,10 @@ formed-at {l} {u} k i h =
 
 -- the pending transactions after c operations, and how many of these are carried out
 abbrev pub all-worked : Replica → ℕ → List Pending
-all-worked u c = worked (table (u .objects)) c (u .pending)
+all-worked u c = worked (committed-table u) c (u .pending)
 
 abbrev pub all-counted : Replica → ℕ → ℕ
-all-counted u c = work-count (table (u .objects)) c (u .pending)
+all-counted u c = work-count (committed-table u) c (u .pending)
 
 abbrev pub after-work : Replica → ℕ → Replica
 after-work u c = with-pending (all-worked u c) u
@@ -171,7 +171,7 @@ module _ {l : Limits} (s : Sane l) (few : l .operations ≤ capacity) {u : Repli
   m = l .operations
 
   same : length W ≡ length js
-  same = same-length W js (worked-sents (table (u .objects)) c js)
+  same = same-length W js (worked-sents (committed-table u) c js)
 
   pub accepted : refusal l (facts u) (execute c) ≡ 0
   unfolding refusal causes
@@ -181,7 +181,7 @@ module _ {l : Limits} (s : Sane l) (few : l .operations ≤ capacity) {u : Repli
   unfolding call perform
   new-shape = let h = call-shape l u k (execute c) tt in rw accepted at h
 
-  pub going-first : {records : List ℕ} {vs : List ℤ} → Holds l records u → table-of vs ≡ table (u .objects) → object-count vs ≡ length (u .objects) → Going l u c records vs 0 c
+  pub going-first : {records : List ℕ} {vs : List ℤ} → Holds l records u → table-of vs ≡ committed-table u → object-count vs ≡ length (u .objects) → Going l u c records vs 0 c
   going-first h t n =
       record {
         within = omega arith;

@@ -17,8 +17,8 @@ struct Totals {
     finished: usize,
 }
 
-// The pending transactions in optimistic order, until one stays unfinished. Those passed are finished and their writes are over the table, which has
-// the committed values at first; `left` of the budget is left.
+// The pending transactions in optimistic order, until one stays unfinished. Those passed are finished and their writes are over the table, which is
+// the committed one at first; `left` of the budget is left.
 fn execute_pending(
     records: &mut [u8],
     bodies: &[u8],
@@ -65,8 +65,8 @@ pub fn execute(records: &mut [u8], bodies: &[u8], l: Limits, count: u32) -> Exec
         return Execution::Refused(14);
     }
     let budget = count as usize;
-    let mut table: [i64; 128] = [0; 128];
-    let n = rows::committed_values(records, l, &mut table);
-    let t = execute_pending(records, bodies, l, &mut table[..n], budget);
+    let mut table: [i64; 384] = [0; 384];
+    let n = rows::committed_rows(records, l, &mut table);
+    let t = execute_pending(records, bodies, l, &mut table[..n * execution::ROW], budget);
     Execution::Executed(t.operations as u32, t.finished as u32)
 }

@@ -1,5 +1,5 @@
 // What a reader's close takes out of the objects' versions. A reader that closes lets go one version an object at most, the one that it saw: the
-// newest that is not above its stamp, if it is not the newest of all and no other reader sees it. Blocks are those of `versions`.
+// newest that is not above its stamp, if it is not the newest of all and no other reader sees it. Blocks and objects are those of `versions`.
 //
 // c is the closed reader's cell, p the greatest of the other cells that is not above c, 0 where there is none, q the least above c.
 ghost use mathlib.Core.Path.{_≡_};
@@ -8,9 +8,8 @@ ghost use Prim.Native.Nat.{ℕ, _*_, _≤_, _<_, _^_};
 ghost use lib.Dec.{ltb, leb};
 ghost use lib.ListN.{length, getD, drop};
 ghost use Rattle.cells.specs.Cells.{cells, uncells};
-ghost use Rattle.model.specs.ListLaws.{All};
-ghost use Rattle.versions.specs.Block.{width, chunks, between, LentBlocks};
-ghost use Rattle.versions_close.specs.Closing.{seen, less-one, Checked, Closable, Closed, pruned};
+ghost use Rattle.versions.specs.Block.{width, between, LentBlocks};
+ghost use Rattle.versions_close.specs.Closing.{seen, less-one, Closable, Closed, AllChecked, pruned};
 
 // The greater of p and x, if x is not above c: one step of `greatest_upto`. What it is for is said of any stamp s: to be below it.
 fn greater(p: u64, x: u64, c: u64) -> u64
@@ -101,23 +100,24 @@ fn close_block(block: &mut [u8], readers: usize, c: u64, p: u64, q: u64)
     }
 }
 
-// The versions that no reader holds go from n objects, whose blocks stand one after another. The blocks passed the shape check while the reader
-// with the cell c was open, and snapshots are the readers' cells without it. Its neighbours p and q are looked for once, then block by block.
+// The versions that no reader holds go from n objects, which stand one after another. Their blocks passed the shape check while the reader with the
+// cell c was open, and snapshots are the readers' cells without it. Its neighbours p and q are looked for once, then object by object: the block, w
+// bytes, is lent, and the next object begins behind the two bounds, which stay as they are.
 pub fn prune_objects(blocks: &mut [u8], snapshots: &[u8], readers: usize, n: usize, c: u64)
     requires lent { ⌜ LentBlocks readers n (now snapshots) (now blocks) ⌝ }
     requires open { ⌜ 0 < c ⌝ }
-    requires checked { ⌜ All (Checked readers c (cells (now snapshots))) (chunks (width readers) n (cells (now blocks))) ⌝ }
+    requires checked { ⌜ AllChecked readers c (cells (now snapshots)) n (cells (now blocks)) ⌝ }
     ensures { λ _. ⌜ now (blocks .exit) ≡ pruned readers (cells (now (snapshots .entry))) n (now (blocks .entry)) ⌝ }
 {
     let p = greatest_upto(snapshots, readers, c);
     let q = least_above(snapshots, readers, c);
     let w = versions::width(readers) * 8;
+    let step = versions::object_cells(readers) * 8;
     let mut at = 0;
     let mut left = n;
     while 0 < left {
-        let end = at + w;
-        close_block(&mut blocks[at..end], readers, c, p, q);
-        at = end;
+        close_block(&mut blocks[at..at + w], readers, c, p, q);
+        at += step;
         left -= 1;
     }
 }

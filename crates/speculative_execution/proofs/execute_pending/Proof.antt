@@ -1,6 +1,6 @@
 -- `speculative_execution::execute_pending`: the loop's invariant is that the transactions passed are worked on, and the others are still to be.
-use mathlib.Core.Path.{_≡_, refl, sym, ap, _∙_, subst}
-use Prim.Native.Nat.{ℕ, _+_, _*_, _-_, _≤_, _<_}
+use mathlib.Core.Path.{_≡_, refl, ap, _∙_, subst}
+use Prim.Native.Nat.{ℕ, _+_, _*_, _/_, _-_, _≤_, _<_}
 use native.Mathlib.Omega.{arith}
 use lib.ListN.{length, getD}
 use borrow.Author.Tests.{not-true, not-false}
@@ -8,7 +8,6 @@ use borrow.Rule.Slice.PartMut.{putMid, same-len-mid}
 use denote.Ref.{now}
 use Rattle.cells.specs.Cells.{cells, Below}
 use Rattle.operation.specs.Body.{body-length}
-use Rattle.execution.specs.Run.{object-count}
 use Rattle.layout.specs.Layout.{Areas, parse}
 use Rattle.layout.specs.Offsets.{record-length, body-at}
 use Rattle.layout.specs.Fit.{fit-says, lengths-say}
@@ -18,7 +17,8 @@ use Rattle.speculative_execution.proofs.execute_pending.Statement.{stat
 use Rattle.speculative_execution.proofs.execute_pending.Tie as tie
 
 abbrev Inv-loop : tie.InvT-loop
-Inv-loop records₀ bodies l table₀ budget pending left₀ i₀ records table left i = (length records ≡ length records₀) × Going l (parse l (records₀, bodies)) budget records table i left
+Inv-loop records₀ bodies l table₀ budget pending left₀ i₀ records table left i =
+    (length records ≡ length records₀) × Going l (parse l (records₀, bodies)) budget records table i left × (length table ≡ length table₀)
 
 abbrev μ-loop : tie.MeasureT-loop
 μ-loop records₀ bodies l table₀ budget pending left₀ i₀ records table left i = pending - i
@@ -106,8 +106,8 @@ records-same x =
     let e = p .before .before .before .before .row-at2 .result * 8 in
     same-len-mid r (e - r) (head p .loop .records) (x .advance .last .0) (x .advance .kept .0) ∙ head p .loop .inv .0
 
-table-same : (lp : At) → object-count (lp .loop .table) ≡ object-count (now (start lp .args .table))
-table-same lp = lp .loop .inv .1 .size ∙ sym (start lp .pre .size)
+table-same : (x : After) → (let p = prepared x in length (x .advance .last .1 .1 .0) ≡ length (now (start (head p) .args .table)))
+table-same x = x .advance .kept .1 .1 .0 ∙ head (prepared x) .loop .inv .2
 
 -- ---- the needs
 
@@ -120,7 +120,7 @@ get-requires c κs = omega (arith, c .pending-at .ensures .exact, lengths (c .be
 loop-holds : tie.Need-loop-holds Inv-loop μ-loop
 loop-holds c =
     let s = c .before .before .before .before .before in
-    (refl, begun-first (s .pre) (λ i. c .before .before .before .before .slice-known .given i .fits))
+    (refl, begun-first (s .pre) (λ i. c .before .before .before .before .slice-known .given i .fits), refl)
 
 row-at-requires : tie.Need-row-at-requires Inv-loop μ-loop
 row-at-requires c κs = (within c .pre .sane, omega (arith, place c))
@@ -190,7 +190,7 @@ same-length : tie.Need-same-length Inv-loop μ-loop
 same-length c = records-same (c .before .before .before .before .before .before)
 
 same-length-2 : tie.Need-same-length-2 Inv-loop μ-loop
-same-length-2 c = let x = c .before .before .before .before .before .before in x .advance .kept .1 .1 .0 ∙ table-same (head (prepared x))
+same-length-2 c = table-same (c .before .before .before .before .before .before)
 
 returns : tie.Need-returns Inv-loop μ-loop
 returns c =
@@ -213,7 +213,8 @@ loop-again c =
     let lp = head p in (
       records-same x,
       lent-next (start lp .pre) (bytes lp) (lp .loop .inv .1) (turn (turn-of p)) (p .before .before .before .before .before .row-at .ensures .exact) (p .before .before .before .before .row-at2 .ensures .exact) (p .before .before .before .body-at .ensures .exact) (body-bytes p)
-          (x .advance .ensures) (not-false _ (c .if1 .left)) (x .advance .kept .1 .1 .0),
+          (x .advance .ensures) (not-false _ (c .if1 .left)) (ap (λ (k : ℕ). k / 3) (x .advance .kept .1 .1 .0)),
+      table-same x,
     )
 
 sub-operations : tie.Need-sub-operations Inv-loop μ-loop
@@ -223,7 +224,7 @@ same-length-3 : tie.Need-same-length-3 Inv-loop μ-loop
 same-length-3 c = c .before .loop .inv .0
 
 same-length-4 : tie.Need-same-length-4 Inv-loop μ-loop
-same-length-4 c = table-same (c .before)
+same-length-4 c = c .before .loop .inv .2
 
 returns-2 : tie.Need-returns-2 Inv-loop μ-loop
 returns-2 c =
