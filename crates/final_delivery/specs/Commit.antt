@@ -23,7 +23,7 @@ use Rattle.model.specs.Calls.{committed as committed-answer, Yield, yielded, Tr
 use Rattle.model.specs.Answers.{delivery}
 use Rattle.model.specs.Serial.{Version}
 use Rattle.model.specs.Replica as model
-use Rattle.model.specs.Replica.{Pending, Replica, opens, table, program, stays, validated, result, commit, pending-of}
+use Rattle.model.specs.Replica.{Pending, Replica, opens, table, committed-table, program, stays, validated, result, commit, pending-of}
 use Rattle.model.specs.VersionLaws.{length-install}
 use Rattle.model.specs.EarlyResults.{walk-sents}
 use Rattle.model.specs.Shape.{Shape}
@@ -85,7 +85,7 @@ marked {l} {t} {cl} {sq} {o} {b} {d} {e} s tt-small small h eo k =
 abbrev pub commit-at : Replica → ℕ → ℕ → ℕ → Yield × Replica
 commit-at u c q i =
     let j : Pending = at (u .pending) i in
-    commit u c q (validated (table (u .objects)) j) (result (table (u .objects)) j)
+    commit u c q (validated (committed-table u) j) (result (committed-table u) j)
 
 -- both areas hold a replica in shape, one of whose transactions stands at position i
 pub record Found (l : Limits) (b c : List ℕ) (cl i : ℕ) : Type 0 where
@@ -114,7 +114,7 @@ module _ {l : Limits} {b c : List ℕ} {cl i : ℕ} (s : Sane l) (m : Local l) (
   j = at (p .replica .pending) i
 
   abbrev T : Table
-  T = table (p .replica .objects)
+  T = committed-table (p .replica)
 
   pub found-laid : rows.Laid l b
   found-laid =
@@ -136,7 +136,7 @@ module _ {l : Limits} {b c : List ℕ} {cl i : ℕ} (s : Sane l) (m : Local l) (
 
   shaped-result : Shaped (length (u .objects)) (program j) (result T j)
   shaped-result =
-      result-shaped l (length (u .objects)) T (table-fits (u .objects) (p .shape .encoded .values)) j body-formed
+      result-shaped l (length (u .objects)) T (table-fits (u .objects) (u .bounds) (p .shape .encoded .values)) j body-formed
       (all-in (λ (x : Pending). Shaped (length (u .objects)) (program x) (x .run)) (u .pending) i (pending-of none) runs (p .there))
 
   -- ps are the places of the committed state
@@ -158,7 +158,7 @@ module _ {l : Limits} {b c : List ℕ} {cl i : ℕ} (s : Sane l) (m : Local l) (
       pub writes-named : Entries (length (u .objects)) ws
       writes-named = subst (Entries (length (u .objects))) (sym (decided .writes)) (shaped-result .writes)
 
-      pub outcome-small : d .outcome ≤ 2
+      pub outcome-small : d .outcome ≤ 3
       outcome-small = omega (arith, decided .outcome, shaped-result .outcome)
 
       pub stored-few : d .stored ≤ capacity
@@ -228,7 +228,7 @@ module _ {l : Limits} {b c : List ℕ} {cl i : ℕ} (s : Sane l) (m : Local l) (
               -- the walk
               module _ {b4 : List ℕ} (h4 : Walks l ps b3 b4) where
                 abbrev final : ℕ → List Entry → Replica
-                final t ws = with-pending (model.walk (table (model.install t (opens (u .readers)) ws (u .objects))) js) (with-lasts (set (u .lasts) cl sq) (with-timestamp t (installed t ws u)))
+                final t ws = with-pending (model.walk (table (model.install t (opens (u .readers)) ws (u .objects)) (u .bounds)) js) (with-lasts (set (u .lasts) cl sq) (with-timestamp t (installed t ws u)))
 
                 walked : Holds l b4 (final t ws)
                 walked = h4 .holds (record { replica = with-pending js v; holds = left .holds; runs = left-runs; versions = left-versions; placed = left-placed; few = left-few })
@@ -243,7 +243,7 @@ module _ {l : Limits} {b c : List ℕ} {cl i : ℕ} (s : Sane l) (m : Local l) (
                     record {
                       answer = λ x. committed-answer (k x) (y x) (q x) (count x);
                       areas = subst (Both l b4 c3) (ap₂ final next (decided .writes))
-                          (record { holds = walked; bodies = same-bodies l s c3 (with-pending js v) (left .bodies) (final t ws) (walked .fits) (bodies-walk (table (model.install t (opens (u .readers)) ws (u .objects))) js) });
+                          (record { holds = walked; bodies = same-bodies l s c3 (with-pending js v) (left .bodies) (final t ws) (walked .fits) (bodies-walk (table (model.install t (opens (u .readers)) ws (u .objects)) (u .bounds)) js) });
                     }
                   where
                     bodies-walk : (S : Table) (js : List Pending) → map body-of (model.walk S js) ≡ map body-of js

@@ -18,7 +18,7 @@ use Rattle.operation.specs.Body.{listed, size, operations, is-well-formed, body
 use Rattle.operation.specs.BodyLaws.{Formed, formed, well-formed}
 use Rattle.execution.specs.declared.Counts.{Counts}
 use Rattle.execution.specs.Entries.{entry}
-use Rattle.execution.specs.Run.{Table, table-of, Run, is-none, due-at, whole, matches}
+use Rattle.execution.specs.Run.{Table, table-of, object-count, Run, is-none, due-at, whole, matches}
 use Rattle.execution.specs.Arrays.{capacity, entries}
 use Rattle.execution.specs.RunShape.{Shaped, every, sound}
 use Rattle.execution_interpreter.specs.Executes.{InArrays}
@@ -26,7 +26,7 @@ use Rattle.model.specs.declared.Limits.{Limits}
 use Rattle.model.specs.ListLaws.{All, all-in, all-implies}
 use Rattle.model.specs.Calls.{Transaction}
 use Rattle.model.specs.Serial.{Version}
-use Rattle.model.specs.Replica.{Pending, Replica, opens, table, program, validated, result, pending-of}
+use Rattle.model.specs.Replica.{Pending, Replica, opens, committed-table, program, validated, result, pending-of}
 use Rattle.model.specs.Shape.{VersionsShape, Shape}
 use Rattle.model.specs.ShapeParts.{pending-part}
 use Rattle.layout.specs.Layout.{body-of}
@@ -38,7 +38,6 @@ use Rattle.layout.specs.Printable.{few-pending}
 use Rattle.rows.specs.RowRun.{entry-in, entries-in}
 use Rattle.rows.specs.Listed.{listed-same}
 use Rattle.rows.specs.Committed as rows
-use Rattle.rows.specs.Committed.{committed, committed-back, committed-table}
 use Rattle.final_commit.specs.Positions.{at, fits-at}
 use Rattle.final_walk.specs.Places.{table-in, Reaching, Placed, matches-same, placed-inside, placed-table}
 use Rattle.final_walk.specs.Recorded.{entry-from, reads-from, writes-from, Lying, row-lying, row-few, row-reads-from, row-writes-from, row-counter, row-outcome}
@@ -75,7 +74,7 @@ pub record Deciding (l : Limits) (b c : List ℕ) (i : ℕ) (ps : List ℕ) : Ty
   pub placed : Placed l (length (replica .objects)) ps
 
 pub record Decides (l : Limits) (b c : List ℕ) (i : ℕ) (ps : List ℕ) (r : Decision) (wo : List ℕ) (wv : List ℤ) : Type 0 where
-  pub decided : (p : Deciding l b c i ps) → Decided (table (p .replica .objects)) (at (p .replica .pending) i) r wo wv
+  pub decided : (p : Deciding l b c i ps) → Decided (committed-table (p .replica)) (at (p .replica .pending) i) r wo wv
 
 -- ---- the run on record
 
@@ -106,30 +105,27 @@ pub record Ran (T : Table) (body : List ℕ) (t : Counts) (wo : List ℕ) (wv : 
   pub writes : entries (t .writes) wo wv ≡ whole T (operations body) .writes
 
 pub record Reruns (l : Limits) (b body : List ℕ) (t : Counts) (wo : List ℕ) (wv : List ℤ) : Type 0 where
-  pub ran : (p : Rerunning l b body) → Ran (table (p .replica .objects)) body t wo wv
+  pub ran : (p : Rerunning l b body) → Ran (committed-table (p .replica)) body t wo wv
 
 module _ {l : Limits} {b body : List ℕ} (s : Sane l) (m : Local l) (p : Rerunning l b body) where
   pub rerun-laid : rows.Laid l b
   rerun-laid =
       record { whole = holds-long l s b (p .replica) (p .holds); few = omega (arith, get-size l s b (p .replica) (p .holds), p .holds .fits .objects .0); room = m .objects }
 
-  -- the first n values, as they were gathered
-  module _ {n : ℕ} {values : List ℤ} (e : rows.Committed l (cells b) n values) where
-    back : (n ≡ length (p .replica .objects)) × (take n values ≡ committed (p .replica))
-    back = committed-back l s b (p .replica) (p .holds) (p .versions) n values e
+  -- the rows of the first n objects, as they were gathered
+  module _ {n : ℕ} {rs : List ℤ} (e : rows.Committed l (cells b) n rs) where
+    pub rows-few : n * 3 ≤ length rs
+    rows-few = rows.committed-room l s b (p .replica) (p .holds) (p .versions) e
 
-    pub values-few : n ≤ length values
-    values-few = omega (arith, back .0, p .holds .fits .objects .0, m .objects, e .room)
+    pub rows-lent : n * 3 ≡ length (take (n * 3) rs)
+    rows-lent = sym (length-take-le (n * 3) rs rows-few)
 
-    pub values-lent : n ≡ length (take n values)
-    values-lent = sym (length-take-le n values values-few)
+    pub rows-formed : is-well-formed capacity (object-count (take (n * 3) rs)) body ≡ true
+    rows-formed = ap (λ (k : ℕ). is-well-formed capacity k body) (rows.committed-count l s b (p .replica) (p .holds) (p .versions) e) ∙ p .formed
 
-    pub values-formed : is-well-formed capacity (length (take n values)) body ≡ true
-    values-formed = ap (λ (k : ℕ). is-well-formed capacity k body) (sym values-lent ∙ back .0) ∙ p .formed
-
-    pub values-ran : (t : Counts) (ro : List ℕ) (rv : List ℤ) (wo : List ℕ) (wv : List ℤ) → InArrays (whole (table-of (take n values)) (operations body)) t ro rv wo wv → Ran (table (p .replica .objects)) body t wo wv
-    values-ran t ro rv wo wv h =
-        let k = h ∙ ap (λ (T : Table). whole T (operations body)) (ap table-of (back .1) ∙ committed-table (p .replica)) in
+    pub rows-ran : (t : Counts) (ro : List ℕ) (rv : List ℤ) (wo : List ℕ) (wv : List ℤ) → InArrays (whole (table-of (take (n * 3) rs)) (operations body)) t ro rv wo wv → Ran (committed-table (p .replica)) body t wo wv
+    rows-ran t ro rv wo wv h =
+        let k = h ∙ ap (λ (T : Table). whole T (operations body)) (rows.committed-back l s b (p .replica) (p .holds) (p .versions) e) in
         record { outcome = ap (λ (q : Run). q .outcome) k; writes = ap (λ (q : Run). q .writes) k }
 
 -- ---- both, of transaction i
@@ -148,7 +144,7 @@ module _ {l : Limits} {b c : List ℕ} {i : ℕ} {ps : List ℕ} (s : Sane l) (m
   j = at (p .replica .pending) i
 
   abbrev T : Table
-  T = table (p .replica .objects)
+  T = committed-table (p .replica)
 
   pub decide-there : i < l .pending
   decide-there = omega (arith, p .there, few-pending l u (p .holds .fits))

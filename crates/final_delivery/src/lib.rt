@@ -81,11 +81,11 @@ fn run_again(
     requires { ⌜ Rerunning l (now records) (now body) × Room (now wo) (now wv) ⌝ }
     ensures { λ t. ⌜ Reruns l (now (records .entry)) (now (body .entry)) t (now (wo .exit)) (now (wv .exit)) ⌝ }
 {
-    let mut values: [i64; 128] = [0; 128];
-    let n = rows::committed_values(records, l, &mut values);
+    let mut table: [i64; 384] = [0; 384];
+    let n = rows::committed_rows(records, l, &mut table);
     let mut ro: [usize; 16] = [0; 16];
     let mut rv: [i64; 16] = [0; 16];
-    execution_interpreter::run(&values[..n], body, &mut ro, &mut rv, wo, wv)
+    execution_interpreter::run(&table[..n * execution::ROW], body, &mut ro, &mut rv, wo, wv)
 }
 
 // The early results of the pending transaction at this position, if they are validated on the committed state, whose places are lent, else its whole

@@ -20,15 +20,16 @@ use Rattle.execution.specs.ReadAgreement.{both}
 use Rattle.execution.specs.RunShape.{every, sound}
 use Rattle.model.specs.declared.Limits.{Limits}
 use Rattle.model.specs.Serial.{Version}
-use Rattle.model.specs.Replica.{Replica, table}
+use Rattle.model.specs.Replica.{Replica, committed-table}
 use Rattle.model.specs.ListLaws.{All}
 use Rattle.layout.specs.Offsets.{Sane, object-width, object-at, value-at}
 use Rattle.layout.specs.Holds.{Holds, holds-long}
 use Rattle.rows.specs.Committed.{value-back}
 use Rattle.rows.specs.Listed.{fill-next}
 
+-- It is compared with what was read, and nothing is stored on it: which values it allows is not asked.
 abbrev pub table-in : List ℕ → List ℕ → Table
-table-in cs ps = record { look = λ o. toZ w64 (getD cs (getD ps o 0) 0) }
+table-in cs ps = record { look = λ o. toZ w64 (getD cs (getD ps o 0) 0); allow = λ o v. true }
 
 -- the places of the first n objects lie in the area b
 pub record Inside (b : List ℕ) (n : ℕ) (ps : List ℕ) : Type 0 where
@@ -60,8 +61,8 @@ placed-next {l} {n} {ps} {v} h p e =
 abbrev pub Same : ℕ → Table → Table → Type 0
 Same n S T = (o : ℕ) → o < n → S .look o ≡ T .look o
 
-pub over-same : {n : ℕ} {S T : Table} (ws : List Entry) → Same n S T → Same n (over ws S) (over ws T)
-over-same ws h o k = ap (Option·getD (lookup ws o)) (h o k)
+pub over-same : {n : ℕ} (S T : Table) (ws : List Entry) → Same n S T → Same n (over ws S) (over ws T)
+over-same S T ws h o k = ap (Option·getD (lookup ws o)) (h o k)
 
 pub matches-same : (n : ℕ) (S T : Table) → Same n S T → (es : List Entry) → every (sound n) es ≡ true → matches S es ≡ matches T es
 unfolding fits
@@ -83,6 +84,6 @@ placed-inside {l} {b} {u} {ps} s h few p =
     }
 
 module _ (l : Limits) (s : Sane l) (b : List ℕ) (u : Replica) (h : Holds l b u) (some-version : All (λ (vs : List Version). 0 < length vs) (u .objects)) where
-  pub placed-table : (ps : List ℕ) → Placed l (length (u .objects)) ps → Same (length (u .objects)) (table-in (cells b) ps) (table (u .objects))
+  pub placed-table : (ps : List ℕ) → Placed l (length (u .objects)) ps → Same (length (u .objects)) (table-in (cells b) ps) (committed-table u)
   placed-table ps p o k =
       ap (λ (i : ℕ). toZ w64 (getD (cells b) i 0)) (p .at o k) ∙ value-back l s b u h some-version o k

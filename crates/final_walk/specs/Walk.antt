@@ -15,7 +15,7 @@ use Rattle.execution.specs.RunShape.{Shaped, every, sound}
 use Rattle.model.specs.declared.Limits.{Limits}
 use Rattle.model.specs.Serial.{Version}
 use Rattle.model.specs.Replica as model
-use Rattle.model.specs.Replica.{Pending, Replica, program, restarted, table}
+use Rattle.model.specs.Replica.{Pending, Replica, program, restarted, committed-table}
 use Rattle.model.specs.ShapeRuns.{AllShaped}
 use Rattle.model.specs.ListLaws.{All, all-in}
 use Rattle.layout.specs.Offsets.{Sane, row-at, record-length}
@@ -37,11 +37,11 @@ pub record Walking (l : Limits) (b ps : List ℕ) : Type 0 where
 
 -- from position r on they go back to their start
 pub record Stale (l : Limits) (b ps : List ℕ) (r : ℕ) : Type 0 where
-  pub walked : (p : Walking l b ps) → model.walk (table (p .replica .objects)) (p .replica .pending) ≡ restarted-from r (p .replica .pending)
+  pub walked : (p : Walking l b ps) → model.walk (committed-table (p .replica)) (p .replica .pending) ≡ restarted-from r (p .replica .pending)
 
 -- the record area, b before, is d after the walk
 pub record Walks (l : Limits) (ps b d : List ℕ) : Type 0 where
-  pub holds : (p : Walking l b ps) → Holds l d (with-pending (model.walk (table (p .replica .objects)) (p .replica .pending)) (p .replica))
+  pub holds : (p : Walking l b ps) → Holds l d (with-pending (model.walk (committed-table (p .replica)) (p .replica .pending)) (p .replica))
 
 -- of n transactions those before i match, qs are the places of transaction i's table, and what the walk from i on with this table gives is left
 pub record Walked (l : Limits) (b : List ℕ) (u : Replica) (qs : List ℕ) (n i : ℕ) : Type 0 where
@@ -50,7 +50,7 @@ pub record Walked (l : Limits) (b : List ℕ) (u : Replica) (qs : List ℕ) (n i
   pub inside : Inside b (length (u .objects)) qs
   pub now : Table
   pub same : Same (length (u .objects)) (table-in (cells b) qs) now
-  pub left : model.walk (table (u .objects)) (u .pending) ≡ take i (u .pending) ++ model.walk now (drop i (u .pending))
+  pub left : model.walk (committed-table u) (u .pending) ≡ take i (u .pending) ++ model.walk now (drop i (u .pending))
 
 module _ {l : Limits} {b ps : List ℕ} (s : Sane l) (p : Walking l b ps) where
   abbrev u : Replica
@@ -68,7 +68,7 @@ module _ {l : Limits} {b ps : List ℕ} (s : Sane l) (p : Walking l b ps) where
         count = e;
         within = omega arith;
         inside = placed-inside s (p .holds) (p .few) (p .placed);
-        now = table (u .objects);
+        now = committed-table u;
         same = placed-table l s b u (p .holds) (p .versions) ps (p .placed);
         left = refl;
       }
@@ -81,7 +81,7 @@ module _ {l : Limits} {b ps : List ℕ} {qs : List ℕ} {n i : ℕ} (s : Sane l)
   m = length (p .replica .objects)
 
   -- all match
-  pub walked-all : n ≤ i → model.walk (table (p .replica .objects)) (p .replica .pending) ≡ restarted-from i (p .replica .pending)
+  pub walked-all : n ≤ i → model.walk (committed-table (p .replica)) (p .replica .pending) ≡ restarted-from i (p .replica .pending)
   unfolding model.walk
   walked-all h =
       let d : drop i js ≡ [] = drop-of-length-le js {i = i} (omega (arith, k .count)) in
@@ -133,7 +133,7 @@ module _ {l : Limits} {b ps : List ℕ} {qs : List ℕ} {n i : ℕ} (s : Sane l)
         told = et ∙ matches-same m (table-in (cells b) qs) (k .now) (k .same) (reads-from (cells b) a) reads-sound ∙ ap (matches (k .now)) is-reads
 
         -- the first that does not match
-        pub walked-stale : t ≡ false → model.walk (table (p .replica .objects)) (p .replica .pending) ≡ restarted-from i (p .replica .pending)
+        pub walked-stale : t ≡ false → model.walk (committed-table (p .replica)) (p .replica .pending) ≡ restarted-from i (p .replica .pending)
         walked-stale f = k .left ∙ ap (take i js ++_) (next ∙ rw (sym told ∙ f))
 
         pub walked-next : t ≡ true → {xs : List ℕ} → LaidOver b a qs xs → Walked l b (p .replica) xs n (i + 1)
@@ -143,7 +143,7 @@ module _ {l : Limits} {b ps : List ℕ} {qs : List ℕ} {n i : ℕ} (s : Sane l)
               within = omega arith;
               inside = h .inside m (k .inside);
               now = over (j .run .writes) (k .now);
-              same = λ o q. ap (λ (T : Table). T .look o) (h .table ∙ ap (λ (w : List Entry). over w (table-in (cells b) qs)) is-writes) ∙ over-same {n = m} {S = table-in (cells b) qs} {T = k .now} (j .run .writes) (k .same) o q;
+              same = λ o q. ap (λ (T : Table). T .look o) (h .table ∙ ap (λ (w : List Entry). over w (table-in (cells b) qs)) is-writes) ∙ over-same {n = m} (table-in (cells b) qs) (k .now) (j .run .writes) (k .same) o q;
               left =
                   k .left
                   ∙ ap (take i js ++_) (next ∙ rw (sym told ∙ f))

@@ -7,6 +7,7 @@ use crate::independent::{Bounds, Independent, State};
 use crate::limits::{CLIENTS, STANDARD};
 use crate::openings::Objects;
 use crate::random::Random;
+use Operation::{Load, Set, Store};
 
 #[derive(Clone, Copy, Debug)]
 pub struct Specimen {
@@ -73,7 +74,7 @@ fn store(random: &mut Random, replica: &mut Independent, objects: &[usize]) {
         let sequence = opened(replica).last[client] + random.between(1, 3) as u32;
         let store = |&object: &usize| {
             let Bounds { lower, upper } = opened(replica).bounds[object];
-            [Operation::Set(0, value(random, true).clamp(lower, upper)), Operation::Store(0, object)]
+            [Set(0, value(random, true).clamp(lower, upper)), Store(0, object)]
         };
         let body: Vec<Operation> = some.iter().flat_map(store).collect();
         assert_eq!(replica.early(client as u32, sequence, &encode(&body)), 0);
@@ -85,13 +86,21 @@ fn store(random: &mut Random, replica: &mut Independent, objects: &[usize]) {
 fn fill(random: &mut Random, replica: &mut Independent, pending: usize) {
     let n = opened(replica).objects.len();
     let taste = Taste { most: STANDARD.operations, hot: n, wild: true };
+    let finished = pending - pending / 3;
     for place in 0..pending {
         let client = place % CLIENTS;
         let sequence = opened(replica).last[client] + 1 + 3 * place as u32;
-        assert_eq!(replica.early(client as u32, sequence, &valid(random, n, taste)), 0);
+        let stores_soon = place == finished && random.percent(50);
+        let body = if stores_soon { store_soon(random.below(n)) } else { valid(random, n, taste) };
+        assert_eq!(replica.early(client as u32, sequence, &body), 0);
     }
-    while opened(replica).finished() < pending - pending / 3 {
+    while opened(replica).finished() < finished {
         replica.work(1);
     }
     replica.work(random.between(1, 4) as u32);
+}
+
+/// A body that is found partly run with a store on record, which random ones seldom are. What was read may be stored.
+fn store_soon(object: usize) -> Vec<u8> {
+    encode(&[Load(0, object), Store(0, object), Set(1, 1), Set(2, 2), Set(3, 3)])
 }
