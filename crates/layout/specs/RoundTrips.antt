@@ -36,7 +36,7 @@ bodies-back (r ∷ rs) (b ∷ bs) h = ap (b ∷_) (bodies-back rs bs (omega arit
 
 -- versions and bounds, joined and parted
 
-versions-back : (objs : List (List Version)) (bs : List Bounds) → map versions-of (stored-from objs bs) ≡ objs
+pub versions-back : (objs : List (List Version)) (bs : List Bounds) → map versions-of (stored-from objs bs) ≡ objs
 versions-back [] bs = refl
 versions-back (vs ∷ objs) bs = ap (vs ∷_) (versions-back objs (drop 1 bs))
 

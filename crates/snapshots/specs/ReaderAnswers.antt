@@ -22,7 +22,7 @@ use Rattle.model.specs.Queries.{query-same}
 use Rattle.model.specs.Shape.{Shape, VersionsShape}
 use Rattle.model.specs.ListLaws.{All, all-implies}
 use Rattle.layout.specs.Layout.{of-reader, body-of}
-use Rattle.layout.specs.Offsets.{Sane, reader-at, object-width, object-at}
+use Rattle.layout.specs.Offsets.{Sane, reader-at, versions-width, object-at}
 use Rattle.layout.specs.Holds.{Holds, with-readers}
 use Rattle.layout.specs.Reading.{get-timestamp, get-reader}
 use Rattle.layout.specs.Writing.{put-reader}
@@ -163,7 +163,7 @@ module _ (l : Limits) (s : Sane l) (b : List ℕ) (u : Replica) (h : Holds l b u
           turned-back l (read r o) u b 12 (read-refusal l u r o ∙ rw (lt-leb (l .readers) r low, opened, le-leb (length (u .objects)) o k)) h
 
       -- object o's block is lent: k bytes from cell a on
-      pub read-done : (o : ℕ) → o < length (u .objects) → (a k : ℕ) → a ≡ object-at l o → k ≡ object-width l * 8 → (v : ℤ) → v ≡ as-of (x - 1) (block-versions (cells (midOf (a * 8) k b))) .value → Answered l (read r o) u b (value v)
+      pub read-done : (o : ℕ) → o < length (u .objects) → (a k : ℕ) → a ≡ object-at l o → k ≡ versions-width l * 8 → (v : ℤ) → v ≡ as-of (x - 1) (block-versions (cells (midOf (a * 8) k b))) .value → Answered l (read r o) u b (value v)
       unfolding perform
       read-done o q a k ea ek v ev =
           let vs = getD (u .objects) o [] in

@@ -7,72 +7,43 @@ use lib.ListN.{length, take, drop, getD, length-map, drop-of-length-le}
 use lib.Seq.{take-at, drop-at, take-all}
 use borrow.Rule.Slice.PartMut.{midOf, putMid}
 use Rattle.cells.specs.Cells.{cells, uncells, Below}
-use Rattle.cells.specs.CellLaws.{below-append, cells-uncells}
-use Rattle.cells.specs.Uncells.{length-uncells}
+use Rattle.cells.specs.Uncells.{length-uncells, uncells-append}
+use Rattle.execution.specs.Bounds.{Bounds, no-bounds}
 use Rattle.model.specs.declared.Limits.{Limits}
 use Rattle.model.specs.Serial.{Version}
 use Rattle.model.specs.Replica.{Replica, opens, held, prune}
 use Rattle.model.specs.Shape.{VersionsShape}
-use Rattle.model.specs.ShapeCheck.{versions-say}
 use Rattle.model.specs.ListLaws.{All, all-keep, all-implies, all-mapped, all-in, length-keep}
 use Rattle.layout.specs.Rows.{flat}
 use Rattle.layout.specs.Codec.{bytewise}
-use Rattle.layout.specs.Layout.{object, of-reader}
-use Rattle.layout.specs.Offsets.{Sane, reader-at, object-width, object-at, size-at}
-use Rattle.layout.specs.Printable.{VersionFits, ObjectFits, fits-small}
+use Rattle.layout.specs.Layout.{of-reader, Stored, object, stored-from, stored-of}
+use Rattle.layout.specs.Offsets.{Sane, reader-at, object-width, versions-width, object-at, size-at}
+use Rattle.layout.specs.Printable.{VersionFits, ObjectFits, StoredFits, length-stored, stored-fit, fits-small}
+use Rattle.layout.specs.RoundTrips.{versions-back}
 use Rattle.layout.specs.Holds.{Holds}
 use Rattle.layout.specs.Reading.{object-part, objects-part, readers-part}
 use Rattle.layout.specs.Writing.{write-objects}
-use Rattle.layout.specs.ObjectBlock.{objects-blocks, readers-stamps}
-use Rattle.versions.specs.Block.{width, block-versions, stamps, chunks, objects-in, block, laid, Small}
-use Rattle.versions.specs.Round.{length-block, below-block, ok-block, versions-of-block, length-block-versions, parsed}
-use Rattle.versions_close.specs.Closing.{Checked}
+use Rattle.layout.specs.ObjectBlock.{readers-stamps}
+use Rattle.versions.specs.Block.{block-versions, stamps}
+use Rattle.versions.specs.Round.{length-block-versions, parsed}
+use Rattle.versions_close.specs.Closing as closing
+use Rattle.versions_close.specs.Closing.{AllChecked}
+use Rattle.versions_close.specs.Laid.{laid, pruned-object, Fitting, laid-checked, laid-pruned}
 use Rattle.snapshots.specs.ClosePruning.{pruned}
 
--- ---- blocks one after another
+-- ---- objects one after another
 
--- versions that a block of n readers can hold
-abbrev Fitting : ℕ → List Version → Type 0
-Fitting n vs = Small vs × (length vs ≤ suc n)
+-- as the crate `versions_close` lays them
+objects-laid : (l : Limits) (os : List Stored) → flat (map (bytewise (object l) .enc) os) ≡ uncells (laid (l .readers) os)
+unfolding flat laid
+objects-laid l [] = refl
+objects-laid l (x ∷ os) =
+    ap (uncells (object l .enc x) ++_) (objects-laid l os) ∙ sym (uncells-append (object l .enc x) (laid (l .readers) os))
 
-module _ (n : ℕ) (few : n ≤ 65536) where
-  below-laid : (objs : List (List Version)) → All (Fitting n) objs → Below (2 ^ 64) (laid n objs)
-  unfolding laid
-  below-laid [] g = λ i. omega arith
-  below-laid (vs ∷ objs) g =
-      below-append (2 ^ 64) (block n vs) (laid n objs) (below-block n vs (g .0 .0) (omega (arith, g .0 .1))) (below-laid objs (g .1))
-
-  chunks-laid : (objs : List (List Version)) → All (Fitting n) objs → chunks (width n) (length objs) (laid n objs) ≡ map (block n) objs
-  unfolding laid chunks
-  chunks-laid [] g = refl
-  chunks-laid (vs ∷ objs) g =
-      let l : length (block n vs) ≡ width n = length-block n vs (g .0 .1) in
-      ap₂ _∷_ (take-at (block n vs) (laid n objs) (width n) l)
-      (ap (chunks (width n) (length objs)) (drop-at (block n vs) (laid n objs) (width n) l) ∙ chunks-laid objs (g .1))
-
-  -- what was in shape while the reader r was open passed the check with its cell c before the others
-  module _ (t c r : ℕ) (rc : List ℕ) (ec : c ≡ suc r) (small : t < 2 ^ 63) where
-    one-checked : (vs : List Version) → Fitting n vs → VersionsShape t (r ∷ stamps rc) vs → Checked n c rc (block n vs)
-    unfolding stamps
-    one-checked vs g f =
-        record { timestamp = t; few = small; ok = rw ec (ok-block n t (suc r ∷ rc) vs (g .0) (g .1) ∙ versions-say t (r ∷ stamps rc) vs .1 f) }
-
-    laid-checked : (objs : List (List Version)) → All (Fitting n) objs → All (VersionsShape t (r ∷ stamps rc)) objs → All (Checked n c rc) (chunks (width n) (length objs) (cells (uncells (laid n objs))))
-    laid-checked objs g f =
-        rw (cells-uncells (laid n objs) (below-laid objs g), chunks-laid objs g) (each objs g f)
-      where
-        each : (objs : List (List Version)) → All (Fitting n) objs → All (VersionsShape t (r ∷ stamps rc)) objs → All (Checked n c rc) (map (block n) objs)
-        each [] g f = tt
-        each (vs ∷ objs) g f = (one-checked vs (g .0) (f .0), each objs (g .1) (f .1))
-
-  -- what laid blocks say
-  laid-objects : (objs : List (List Version)) → All (Fitting n) objs → objects-in n (length objs) (cells (uncells (laid n objs))) ≡ objs
-  unfolding objects-in
-  laid-objects objs g = rw (cells-uncells (laid n objs) (below-laid objs g), chunks-laid objs g) (each objs g)
-    where
-      each : (objs : List (List Version)) → All (Fitting n) objs → map block-versions (map (block n) objs) ≡ objs
-      each [] g = refl
-      each (vs ∷ objs) g = ap₂ _∷_ (versions-of-block n vs (g .0 .0)) (each objs (g .1))
+-- pruning leaves the bounds
+pruned-stored : (rc : List ℕ) (objs : List (List Version)) (bs : List Bounds) → map (pruned-object rc) (stored-from objs bs) ≡ stored-from (map (prune (stamps rc)) objs) bs
+pruned-stored rc [] bs = refl
+pruned-stored rc (vs ∷ objs) bs = ap ((prune (stamps rc) vs, getD bs 0 no-bounds) ∷_) (pruned-stored rc objs (drop 1 bs))
 
 prune-fits : (n : ℕ) (rs : List ℕ) (vs : List Version) → ObjectFits n vs → ObjectFits n (prune rs vs)
 unfolding prune
@@ -85,7 +56,7 @@ module _ (l : Limits) (s : Sane l) (b : List ℕ) (u : Replica) (h : Holds l b u
   fits i k = all-in (ObjectFits (l .readers)) (u .objects) i [] (h .fits .objects .1) k
 
   -- object i's block, lent
-  module _ (i : ℕ) (low : i < length (u .objects)) (a k : ℕ) (ea : a ≡ object-at l i) (ek : k ≡ object-width l * 8) where
+  module _ (i : ℕ) (low : i < length (u .objects)) (a k : ℕ) (ea : a ≡ object-at l i) (ek : k ≡ versions-width l * 8) where
     pub lent-object : block-versions (cells (midOf (a * 8) k b)) ≡ getD (u .objects) i []
     lent-object =
         let vs = getD (u .objects) i [] in
@@ -106,29 +77,36 @@ module _ (l : Limits) (s : Sane l) (b : List ℕ) (u : Replica) (h : Holds l b u
       let same : rs ≡ src = e ∙ ap₂ (λ (x y : List ℕ). x ++ y) (take-all (length src) src (omega arith)) (drop-of-length-le old {i = length src} (omega arith)) ∙ append-nil src in
       readers-stamps l b u h rs (same ∙ part)
 
-  -- the blocks of all objects, lent, and given back pruned
-  fitting : All (Fitting (l .readers)) (u .objects)
-  fitting = all-implies (ObjectFits (l .readers)) (Fitting (l .readers)) (λ vs g. (fits-small vs (g .1), g .0)) (u .objects) (h .fits .objects .1)
+  -- the cells of all objects, lent, and given back pruned
+  fitting : All (Fitting (l .readers)) (stored-of u)
+  fitting =
+      all-implies (StoredFits (l .readers)) (Fitting (l .readers)) (λ x g. record { small = fits-small (x .0) (g .0 .1); count = g .0 .0; lower = g .1 .0; upper = g .1 .1 }) (stored-of u) (stored-fit l u (h .fits) .1)
+
+  few-readers : l .readers < 2 ^ 32
+  few-readers = omega (arith, s .readers)
 
   module _ (n a k : ℕ) (en : n ≡ length (u .objects)) (ea : a ≡ object-at l 0) (ek : k ≡ n * (object-width l * 8)) where
-    lent-blocks : midOf (a * 8) k b ≡ uncells (laid (l .readers) (u .objects))
-    lent-blocks = rw (ek, ea, en) (objects-part l s b u h ∙ objects-blocks l (u .objects))
+    lent-objects : midOf (a * 8) k b ≡ uncells (laid (l .readers) (stored-of u))
+    lent-objects = rw (ek, ea, en) (objects-part l s b u h ∙ objects-laid l (stored-of u))
+
+    count : n ≡ length (stored-of u)
+    count = en ∙ sym (length-stored (u .objects) (u .bounds))
 
     pub lent-checked : (t c r : ℕ) (rc : List ℕ) → c ≡ suc r → t < 2 ^ 63 → stamps rc ≡ opens (u .readers) → All (VersionsShape t (r ∷ opens (u .readers))) (u .objects)
-        → All (Checked (l .readers) c rc) (chunks (width (l .readers)) n (cells (midOf (a * 8) k b)))
+        → AllChecked (l .readers) c rc n (cells (midOf (a * 8) k b))
     lent-checked t c r rc ec small e f =
-        rw (lent-blocks, en) (laid-checked (l .readers) (s .readers) t c r rc ec small (u .objects) fitting (rw e f))
+        rw (lent-objects, count) (laid-checked (l .readers) few-readers t c r rc ec small (stored-of u) fitting (rw (e, versions-back (u .objects) (u .bounds)) f))
 
-    lent-objects : objects-in (l .readers) n (cells (midOf (a * 8) k b)) ≡ u .objects
-    lent-objects = rw (lent-blocks, en) (laid-objects (l .readers) (s .readers) (u .objects) fitting)
-
-    pub pruned-back : (rs bs ys : List ℕ) → rs ≡ opens (u .readers) → bs ≡ uncells (laid (l .readers) (map (prune rs) (objects-in (l .readers) n (cells (midOf (a * 8) k b))))) → ys ≡ putMid (a * 8) k b bs
-        → Holds l ys (pruned u)
-    pruned-back rs bs ys er eb ey =
-        let xs = map (prune (opens (u .readers))) (u .objects) in
-        let m : length xs ≡ length (u .objects) = length-map (u .objects) (prune (opens (u .readers))) in
-        let e : bs ≡ flat (map (bytewise (object l) .enc) xs) =
-        eb ∙ ap₂ (λ (r : List ℕ) (o : List (List Version)). uncells (laid (l .readers) (map (prune r) o))) er lent-objects ∙ sym (objects-blocks l xs) in
+    pub pruned-back : (rc bs ys : List ℕ) → stamps rc ≡ opens (u .readers) → bs ≡ closing.pruned (l .readers) rc n (midOf (a * 8) k b) → ys ≡ putMid (a * 8) k b bs → Holds l ys (pruned u)
+    pruned-back rc bs ys er eb ey =
         let less = prune (opens (u .readers)) in
+        let xs = map less (u .objects) in
+        let m : length xs ≡ length (u .objects) = length-map (u .objects) less in
+        let e : bs ≡ flat (map (bytewise (object l) .enc) (stored-from xs (u .bounds))) =
+        eb
+        ∙ ap₂ (closing.pruned (l .readers) rc) count lent-objects
+        ∙ laid-pruned (l .readers) few-readers rc (stored-of u) fitting
+        ∙ ap (λ (os : List Stored). uncells (laid (l .readers) os)) (pruned-stored rc (u .objects) (u .bounds) ∙ ap (λ (r : List ℕ). stored-from (map (prune r) (u .objects)) (u .bounds)) er)
+        ∙ sym (objects-laid l (stored-from xs (u .bounds))) in
         let fit = all-implies (ObjectFits (l .readers)) (λ vs. ObjectFits (l .readers) (less vs)) (prune-fits (l .readers) (opens (u .readers))) (u .objects) (h .fits .objects .1) in
         write-objects l s b u h xs m (all-mapped (ObjectFits (l .readers)) less (u .objects) fit) ys (ey ∙ rw (e, ek, ea, en, m))

@@ -27,7 +27,7 @@ pub fn open_reader(records: &mut [u8], l: Limits, reader: u32) -> Reply
     Reply::Done
 }
 
-// What an open reader sees of an object: looked up in the object's block by the reader's stamp, which its cell has with 1 added.
+// What an open reader sees of an object: looked up in the block of its versions by the reader's stamp, which its cell has with 1 added.
 pub fn read(records: &[u8], l: Limits, reader: u32, object: u32) -> Reading
     requires { ⌜ Supported l ⌝ }
     requires { ⌜ HoldsShaped l (now records) ⌝ }
@@ -46,7 +46,7 @@ pub fn read(records: &[u8], l: Limits, reader: u32, object: u32) -> Reading
         return Reading::Refused(13);
     }
     let first = layout::object_at(l, o) * 8;
-    let end = layout::object_at(l, o + 1) * 8;
+    let end = first + layout::bounds_at(l) * 8;
     Reading::Value(versions::lookup(&records[first..end], cell - 1))
 }
 

@@ -1,7 +1,8 @@
 //! One replica of the cabinet job store: a safe face to the proved library.
 //!
-//! A replica holds a table of objects. Jobs come to it early, in the order in which they will probably commit, and are
-//! worked on; they commit, one by one, at their final delivery. Readers see the table as it was when they were opened.
+//! A replica holds a table of objects, each with [`Bounds`] where it is given any. Jobs come to it early, in the order
+//! in which they will probably commit, and are worked on; they commit, one by one, at their final delivery. Readers see
+//! the table as it was when they were opened.
 //!
 //! ```
 //! use jobstore::{Body, Outcome, Refusal, Replica};

@@ -37,7 +37,9 @@ fn turn_bounds(random: &mut Random, state: &mut State) {
     let Bounds { lower, upper } = state.bounds[object];
     let above = Bounds { lower: upper.saturating_add(1), upper };
     let below = Bounds { lower, upper: lower.saturating_sub(1) };
-    state.bounds[object] = random.pick(&[above, below, Bounds { lower: upper, upper: lower }]);
+    let mut turned = vec![above, below, Bounds { lower: upper, upper: lower }];
+    turned.retain(|bounds| !bounds.ordered());
+    state.bounds[object] = random.pick(&turned);
 }
 
 /// A value just outside, if 64 bits have one.

@@ -1,4 +1,4 @@
-//! What bounds a replica of one kind, and what bounds every kind.
+//! The limits of a replica of one kind, and those of every kind. Bounds are an object's.
 
 #[derive(Clone, Copy, PartialEq, Eq, Debug)]
 pub struct Limits {

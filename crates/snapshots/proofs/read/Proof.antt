@@ -1,6 +1,7 @@
 -- `snapshots::read` meets its contract: each way out is a law of specs/ReaderAnswers, and the block that is lent says the object's versions.
-use mathlib.Core.Path.{_≡_}
-use Prim.Native.Nat.{_+_, _*_, _≤_}
+use mathlib.Core.Path.{_≡_, refl}
+use Prim.Native.Nat.{suc, _+_, _-_, _*_, _≤_}
+use native.Mathlib.Nat.{suc-mul}
 use native.Mathlib.Omega.{arith}
 use lib.ListN.{length}
 use borrow.Author.Needs.{needs}
@@ -8,8 +9,7 @@ use borrow.Rule.Slice.PartMut.{mid-len}
 use Rattle.cells.specs.Signed.{told}
 use Rattle.model.specs.Replica.{Replica}
 use Rattle.model.specs.Calls.{read}
-use Rattle.layout.specs.Offsets.{reader-at, size-at}
-use Rattle.layout.specs.OffsetLaws.{block-span}
+use Rattle.layout.specs.Offsets.{reader-at, size-at, object-width, versions-width, object-at}
 use Rattle.layout.specs.Holds.{Holds}
 use Rattle.layout.specs.Reading.{cell-inside, size-read, size-few, object-inside}
 use Rattle.snapshots.specs.ReaderBlocks.{lent-count}
@@ -80,28 +80,30 @@ object-at-requires c κs = (entry (c .before) .pre .0 .sane, omega (arith, few (
 mul-first : tie.Need-mul-first
 mul-first c = search needs
 
-add-object-at : tie.Need-add-object-at
-add-object-at c = search needs
+bounds-at-requires : tie.Need-bounds-at-requires
+bounds-at-requires c κs = entry (c .before .before) .pre .0 .sane
 
-object-at-requires-2 : tie.Need-object-at-requires-2
-object-at-requires-2 c κs = (entry (c .before .before) .pre .0 .sane, omega (arith, few (c .before .before)))
+-- the block ends in the area
+ends : (c : tie.After-bounds-at) → c .before .object-at .result * 8 + c .bounds-at .result * 8 ≤ length (entry (c .before .before .before) .args .records .now)
+ends c =
+    let g = c .before .before .before in
+    let e = entry g in
+    let p = e .pre .1 in
+    let o = e .args .object in
+    let l = e .args .l in
+    omega (arith, c .before .object-at .ensures .exact, c .bounds-at .ensures, suc-mul o (object-width l), object-inside l (e .pre .0 .sane) (e .args .records .now) (p .replica) (p .holds) (suc o) (object-at l (suc o)) (omega (arith, few g)) refl)
 
 mul-end : tie.Need-mul-end
-mul-end c = search needs
+mul-end c = omega (arith, c .bounds-at .ensures, entry (c .before .before .before) .pre .0 .sane .readers)
+
+add-end : tie.Need-add-end
+add-end c = omega (arith, ends c)
 
 sub-lookup : tie.Need-sub-lookup
 sub-lookup c = search needs
 
 part-lookup-start : tie.Need-part-lookup-start
 part-lookup-start c = search needs
-
--- the block ends in the area
-ends : (c : tie.After-object-at2) → c .object-at2 .result * 8 ≤ length (entry (c .before .before .before) .args .records .now)
-ends c =
-    let g = c .before .before .before in
-    let e = entry g in
-    let p = e .pre .1 in
-    object-inside (e .args .l) (e .pre .0 .sane) (e .args .records .now) (p .replica) (p .holds) (e .args .object + 1) (c .object-at2 .result) (omega (arith, few g)) (c .object-at2 .ensures .exact)
 
 part-lookup-end : tie.Need-part-lookup-end
 part-lookup-end c = omega (arith, ends c)
@@ -116,9 +118,9 @@ lookup-requires c κs =
     let a = e .args in
     let p = e .pre .1 in
     let f = c .before .before .object-at in
-    let t = c .before .object-at2 in
-    let w = block-span (a .l) (a .object) (f .result) (t .result) (f .ensures .exact) (t .ensures .exact) in
-    omega (arith, mid-len (f .result * 8) (t .result * 8) (a .records .now) (ends (c .before)), w, lent-count (e .args .l) (e .pre .0 .sane) (e .args .records .now) (p .replica) (p .holds) (a .object) (omega (arith, objects g (p .replica) (p .holds))) (f .result) _ (f .ensures .exact) w)
+    let t = c .before .bounds-at in
+    let w : f .result * 8 + t .result * 8 - f .result * 8 ≡ versions-width (a .l) * 8 = omega (arith, t .ensures) in
+    omega (arith, mid-len (f .result * 8) (f .result * 8 + t .result * 8) (a .records .now) (ends (c .before)), w, lent-count (e .args .l) (e .pre .0 .sane) (e .args .records .now) (p .replica) (p .holds) (a .object) (omega (arith, objects g (p .replica) (p .holds))) (f .result) _ (f .ensures .exact) w)
 
 returns-4 : tie.Need-returns-4
 returns-4 c =
@@ -128,8 +130,9 @@ returns-4 c =
     let x = g .before .before .before .get in
     let at = g .before .before .before .before .reader-at in
     let f = c .before .before .before .object-at in
-    let t = c .before .before .object-at2 in
-    met-beside (a .l) (e .pre .0 .sane) (read (a .reader) (a .object)) (a .records .now) (e .pre .1 .bytes) _ _ (read-bodies (a .l) (a .reader) (a .object)) (λ u h k. read-done (a .l) (e .pre .0 .sane) (a .records .now) u h (a .reader) (search needs) (at .result) (at .ensures .exact) (x .result) (x .ensures) (search needs) (a .object) (omega (arith, objects g u h)) (f .result) _ (f .ensures .exact) (block-span (a .l) (a .object) (f .result) (t .result) (f .ensures .exact) (t .ensures .exact)) _ (told (c .lookup .ok) (c .lookup .ensures)))
+    let t = c .before .before .bounds-at in
+    let w : f .result * 8 + t .result * 8 - f .result * 8 ≡ versions-width (a .l) * 8 = omega (arith, t .ensures) in
+    met-beside (a .l) (e .pre .0 .sane) (read (a .reader) (a .object)) (a .records .now) (e .pre .1 .bytes) _ _ (read-bodies (a .l) (a .reader) (a .object)) (λ u h k. read-done (a .l) (e .pre .0 .sane) (a .records .now) u h (a .reader) (search needs) (at .result) (at .ensures .exact) (x .result) (x .ensures) (search needs) (a .object) (omega (arith, objects g u h)) (f .result) _ (f .ensures .exact) w _ (told (c .lookup .ok) (c .lookup .ensures)))
 
 pub read-spec : {M : Type 1} → statement M
 read-spec =
@@ -144,9 +147,9 @@ read-spec =
     returns-3
     object-at-requires
     mul-first
-    add-object-at
-    object-at-requires-2
+    bounds-at-requires
     mul-end
+    add-end
     sub-lookup
     part-lookup-start
     part-lookup-end
