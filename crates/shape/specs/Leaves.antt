@@ -36,7 +36,7 @@ swapped false false c d = refl
 -- ---- entries
 
 -- the object of an entry
-object-of : (w : ℕ) (xs : List ℕ) → 0 < w → getD (take 1 (take (suc w) xs)) 0 0 ≡ getD xs 0 0
+pub object-of : (w : ℕ) (xs : List ℕ) → 0 < w → getD (take 1 (take (suc w) xs)) 0 0 ≡ getD xs 0 0
 object-of w xs h = getD-take 1 (take (suc w) xs) 0 0 (omega arith) ∙ getD-take (suc w) xs 0 0 (omega arith)
 
 looked : (o : ℕ) (rs : List (List ℕ)) → is-some (lookup (map (entry .dec) rs) o) ≡ any (λ r. eqb (getD r 0 0) o) rs

@@ -6,6 +6,7 @@ pub mod RowLoop
 pub mod RowsWalk
 pub mod PendingParts
 pub mod Leaves
+pub mod Stores
 pub mod Runs
 pub mod Table
 pub mod Objects

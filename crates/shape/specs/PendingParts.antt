@@ -10,19 +10,21 @@ use borrow.Author.Tests.{le-leb, lt-leb}
 use Rattle.cells.specs.Cells.{cells}
 use Rattle.cells.specs.Zeros.{zeros, zeros-cells-part}
 use Rattle.model.specs.declared.Limits.{Limits}
-use Rattle.layout.specs.Offsets.{last-at, reader-at, row-at, body-at}
+use Rattle.layout.specs.Offsets.{last-at, reader-at, object-at, row-at, body-at}
 use Rattle.layout.specs.Unchecked.{size-in, pending-in}
 use Rattle.shape_objects.specs.ObjectScan.{lasts-of}
-use Rattle.shape_objects.specs.HeaderParts.{part, lasts-part}
+use Rattle.shape_objects.specs.HeaderParts.{part, lasts-part, objects-part}
 use Rattle.shape_names.specs.NameTests.{rest-cells}
 use Rattle.shape.specs.AreaScan.{rows-in, used-in, unused-in, pending-part}
 
--- the last numbers lie from cell c up to cell r, the rows from cell f on
-pub used-here : (l : Limits) (xs ys : List ℕ) (k n c r f : ℕ) → n ≡ size-in l (cells xs) → c ≡ last-at 0 → r ≡ reader-at 0 → f ≡ row-at l 0
-    → rows-in (l .operations) n (cells (part c r xs)) true k (cells (take (length xs - f * 8) (drop (f * 8) xs))) ys ≡ used-in l k (cells xs) ys
-used-here l xs ys k n c r f ne ce re fe =
-    ap₂ (λ (n : ℕ) (ls : List ℕ). rows-in (l .operations) n ls true k (cells (take (length xs - f * 8) (drop (f * 8) xs))) ys) ne (lasts-part xs c r ce re)
-    ∙ ap (λ (x : List ℕ). rows-in (l .operations) (size-in l (cells xs)) (lasts-of (cells xs)) true k x ys) (rest-cells xs f ∙ ap (λ (f : ℕ). drop f (cells xs)) fe)
+-- the last numbers lie from cell c up to cell r, the objects from cell o up to cell g, the rows from cell f on
+pub used-here : (l : Limits) (xs ys : List ℕ) (k n c r o g f : ℕ) → n ≡ size-in l (cells xs) → c ≡ last-at 0 → r ≡ reader-at 0 → o ≡ object-at l 0 → g ≡ object-at l n → f ≡ row-at l 0
+    → (p : Bool) → p ≡ rows-in (l .operations) n (l .readers) (cells (part o g xs)) (cells (part c r xs)) true k (cells (take (length xs - f * 8) (drop (f * 8) xs))) ys → p ≡ used-in l k (cells xs) ys
+used-here l xs ys k n c r o g f ne ce re oe ge fe p e =
+    let rows : List ℕ → List ℕ → List ℕ → Bool = λ os ls x. rows-in (l .operations) n (l .readers) os ls true k x ys in
+    e ∙ ap₂ (λ (os ls : List ℕ). rows os ls (cells (take (length xs - f * 8) (drop (f * 8) xs)))) (objects-part xs o g l n oe ge) (lasts-part xs c r ce re)
+    ∙ ap (rows (slice (object-at l 0) (object-at l n) (cells xs)) (lasts-of (cells xs))) (rest-cells xs f ∙ ap (λ (f : ℕ). drop f (cells xs)) fe)
+    ∙ ap (λ (n : ℕ). rows-in (l .operations) n (l .readers) (slice (object-at l 0) (object-at l n) (cells xs)) (lasts-of (cells xs)) true k (drop (row-at l 0) (cells xs)) ys) ne
 
 module _ (l : Limits) (xs ys : List ℕ) (k : ℕ) (e : k ≡ pending-in l (cells xs)) where
   abbrev v : List ℕ

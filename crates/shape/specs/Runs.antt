@@ -17,10 +17,11 @@ use Rattle.arith.specs.Integer.{eq-z}
 use Rattle.operation.specs.Body.{register-count}
 use Rattle.execution.specs.ReadAgreement.{both}
 use Rattle.execution.specs.Entries.{Entry}
+use Rattle.execution.specs.Bounds.{Bounds}
 use Rattle.execution.specs.Run.{Run}
 use Rattle.model.specs.Lists.{all}
 use Rattle.model.specs.Tests.{Says, _and_, says-self, says-le, either}
-use Rattle.model.specs.ShapeCheck.{names-shaped, at-start, run-shaped}
+use Rattle.model.specs.ShapeCheck.{names-shaped, stores-inside, at-start, run-shaped}
 use Rattle.model.specs.ListLaws.{map-take, map-drop}
 use Rattle.layout.specs.Offsets.{entry-at}
 use Rattle.layout.specs.Rows.{chunks}
@@ -28,8 +29,9 @@ use Rattle.layout.specs.RowLaws.{length-chunks}
 use Rattle.layout.specs.Layout.{entry, row}
 use Rattle.layout.specs.UncheckedRows.{row-ok, dec-counter, dec-outcome, dec-registers, dec-reads, dec-writes}
 use Rattle.shape_names.specs.NameScan.{names-in}
-use Rattle.shape_row.specs.RowScan.{counter-in, outcome-in, reads-in, entries-in, sets-in, begun-in, run-in}
+use Rattle.shape_row.specs.RowScan.{counter-in, outcome-in, reads-in, entries-in, stores-in, sets-in, begun-in, run-in}
 use Rattle.shape.specs.Leaves.{same, names-are}
+use Rattle.shape.specs.Stores.{Said, stores-are}
 
 -- ---- a row taken apart
 
@@ -95,6 +97,12 @@ module _ (x : List ℕ) (r e : ℕ) (h : r ≤ e) where
   write-names : (n : ℕ) → names-in n (e - r) (drop (entry-at r) x) ≡ names-shaped n (drop r both-in)
   write-names n = names-are n (e - r) (drop (entry-at r) x) ∙ ap (names-shaped n) (sym writes-are)
 
+  -- of writes that name objects below n
+  write-stores : (n readers : ℕ) (os : List ℕ) (bs : List Bounds) → Said n readers os bs → names-in n (e - r) (drop (entry-at r) x) ≡ true
+      → stores-in readers os (e - r) (drop (entry-at r) x) ≡ stores-inside bs (drop r both-in)
+  write-stores n readers os bs s q =
+      stores-are n readers os bs s (e - r) (drop (entry-at r) x) q ∙ ap (stores-inside bs) (sym writes-are)
+
   read-count : length (take r both-in) ≡ r
   read-count =
       ap length reads-are ∙ length-map (chunks 2 r (drop (entry-at 0) x)) (entry .dec) ∙ length-chunks 2 r (drop (entry-at 0) x)
@@ -109,16 +117,16 @@ zero-registers : (gs : List ℕ) → all (eq-z (pos 0)) (map (toZ w64) gs) ≡ z
 zero-registers [] = refl
 zero-registers (v ∷ gs) = ap₂ _&&_ (zero-register v) (zero-registers gs)
 
-module _ (n m c o : ℕ) (gs : List ℕ) (x : List ℕ) (r e : ℕ) (h : r ≤ e) where
+module _ (n : ℕ) (bs : List Bounds) (m c o : ℕ) (gs : List ℕ) (x : List ℕ) (r e : ℕ) (h : r ≤ e) where
   abbrev run-here : Run
   run-here =
       record { counter = c; outcome = o; registers = map (toZ w64) gs; reads = take r (both-in x r e h); writes = drop r (both-in x r e h) }
 
   abbrev run-tests : Bool
   run-tests =
-      (ltb 0 c || (eqb c 0 && eqb o 0 && eqb r 0 && eqb (e - r) 0 && zeros gs)) && leb c m && leb o 2 && (eqb o 0 || eqb (e - r) 0) && leb (r + (e - r)) c && names-in n r (drop (entry-at 0) x) && names-in n (e - r) (drop (entry-at r) x)
+      (ltb 0 c || (eqb c 0 && eqb o 0 && eqb r 0 && eqb (e - r) 0 && zeros gs)) && leb c m && leb o 3 && (eqb o 0 || eqb (e - r) 0) && leb (r + (e - r)) c && names-in n r (drop (entry-at 0) x) && names-in n (e - r) (drop (entry-at r) x) && stores-inside bs (drop r (both-in x r e h))
 
-  run-tested : run-shaped n m run-here ≡ run-tests
+  run-tested : run-shaped n bs m run-here ≡ run-tests
   unfolding run-shaped at-start
   run-tested =
       rw (read-count x r e h, write-count x r e h, zero-registers gs, read-names x r e h n, write-names x r e h n)
@@ -127,17 +135,17 @@ pub row-size : (most : ℕ) → row most .size ≡ 9 + 2 * most
 unfolding register-count
 row-size most = omega arith
 
-module _ (n m most : ℕ) (x : List ℕ) (len : length x ≡ 9 + 2 * most) (h : reads-in x ≤ entries-in x) (k : entries-in x ≤ most) where
-  run-parts : row most .dec x .1 ≡ run-here n m (counter-in x) (outcome-in x) (take 4 (drop 3 x)) x (reads-in x) (entries-in x) h
+module _ (n : ℕ) (bs : List Bounds) (m most : ℕ) (x : List ℕ) (len : length x ≡ 9 + 2 * most) (h : reads-in x ≤ entries-in x) (k : entries-in x ≤ most) where
+  run-parts : row most .dec x .1 ≡ run-here n bs m (counter-in x) (outcome-in x) (take 4 (drop 3 x)) x (reads-in x) (entries-in x) h
   unfolding register-count
   run-parts =
       let q : length x ≡ row most .size = len ∙ sym (row-size most) in
       λ j. record { counter = dec-counter most x q j; outcome = dec-outcome most x q j; registers = dec-registers most x q j; reads = dec-reads most x q k j; writes = dec-writes most x q k j }
 
-  -- the model's test of the run, as tests of cells
-  run-is-tested : run-shaped n m (row most .dec x .1) ≡ run-tests n m (counter-in x) (outcome-in x) (take 4 (drop 3 x)) x (reads-in x) (entries-in x) h
+  -- the model's test of the run, as tests of cells, but for the stores
+  run-is-tested : run-shaped n bs m (row most .dec x .1) ≡ run-tests n bs m (counter-in x) (outcome-in x) (take 4 (drop 3 x)) x (reads-in x) (entries-in x) h
   run-is-tested =
-      ap (run-shaped n m) run-parts ∙ run-tested n m (counter-in x) (outcome-in x) (take 4 (drop 3 x)) x (reads-in x) (entries-in x) h
+      ap (run-shaped n bs m) run-parts ∙ run-tested n bs m (counter-in x) (outcome-in x) (take 4 (drop 3 x)) x (reads-in x) (entries-in x) h
 
 -- ---- one at its start
 
@@ -153,17 +161,17 @@ zero-cells o f g h i r e t z =
     let (e0, z) = both (eqb e 0) (zeros t) z in
     (eqb-true o 0 o0, eqb-true f 0 f0, eqb-true g 0 g0, eqb-true h 0 h0, eqb-true i 0 i0, eqb-true r 0 r0, eqb-true e 0 e0, z)
 
-module _ (n m most : ℕ) where
+module _ (n : ℕ) (bs : List Bounds) (m most : ℕ) where
   abbrev Asked : List ℕ → Bool
-  Asked x = row most .ok x && run-shaped n m (row most .dec x .1)
+  Asked x = row most .ok x && run-shaped n bs m (row most .dec x .1)
 
   start-asked : (a : ℕ) (t : List ℕ) → length t ≡ 2 * most → zeros t ≡ true → Asked (a ∷ 0 ∷ 0 ∷ 0 ∷ 0 ∷ 0 ∷ 0 ∷ 0 ∷ 0 ∷ t) ≡ true
-  unfolding names-in
+  unfolding names-in stores-inside chunks
   start-asked a t len z =
       let x = a ∷ 0 ∷ 0 ∷ 0 ∷ 0 ∷ 0 ∷ 0 ∷ 0 ∷ 0 ∷ t in
       let q : length x ≡ 9 + 2 * most = omega arith in
       let ok : row most .ok x ≡ true = row-ok most x (q ∙ sym (row-size most)) ∙ rw (le-leb 0 most (omega arith), z) in
-      let shape : run-shaped n m (row most .dec x .1) ≡ true = run-is-tested n m most x q (omega arith) (omega arith) ∙ rw (le-leb 0 m (omega arith)) in
+      let shape : run-shaped n bs m (row most .dec x .1) ≡ true = run-is-tested n bs m most x q (omega arith) (omega arith) ∙ rw (le-leb 0 m (omega arith)) in
       ap₂ _&&_ ok shape
 
   start-to : (x : List ℕ) → length x ≡ 9 + 2 * most → counter-in x ≡ 0 → zeros (drop 2 x) ≡ true → Asked x ≡ true
@@ -176,80 +184,95 @@ module _ (n m most : ℕ) where
 
 -- ---- what the two tests say, one by one
 
-pub record Begun (n m : ℕ) (x : List ℕ) : Type 0 where
+pub record Begun (readers : ℕ) (os : List ℕ) (n m : ℕ) (x : List ℕ) : Type 0 where
   pub counter : counter-in x ≤ m
-  pub outcome : outcome-in x ≤ 2
+  pub outcome : outcome-in x ≤ 3
   pub room : entries-in x ≤ counter-in x
   pub reads : reads-in x ≤ entries-in x
   pub stopped : eqb (outcome-in x) 0 || eqb (reads-in x) (entries-in x) ≡ true
   pub read-names : names-in n (reads-in x) (drop (entry-at 0) x) ≡ true
   pub write-names : names-in n (entries-in x - reads-in x) (drop (entry-at (reads-in x)) x) ≡ true
+  pub write-values : stores-in readers os (entries-in x - reads-in x) (drop (entry-at (reads-in x)) x) ≡ true
   pub behind : zeros (drop (entry-at (entries-in x)) x) ≡ true
 
-begun-says : (n m : ℕ) (x : List ℕ) → Says (begun-in n m x) (Begun n m x)
+begun-says : (readers : ℕ) (os : List ℕ) (n m : ℕ) (x : List ℕ) → Says (begun-in readers os n m x) (Begun readers os n m x)
 unfolding begun-in sets-in
-begun-says n m x =
+begun-says readers os n m x =
     let c = counter-in x in
     let o = outcome-in x in
     let r = reads-in x in
     let e = entries-in x in
     let reads = says-self (names-in n r (drop (entry-at 0) x)) in
     let writes = says-self (names-in n (e - r) (drop (entry-at r) x)) in
-    let sets = reads and (writes and says-self (zeros (drop (entry-at e) x))) in
-    let s = says-le c m and (says-le o 2 and (says-le e c and (says-le r e and (says-self (eqb o 0 || eqb r e) and sets)))) in (
-      λ e. (let (c, (o, (m, (r, (s, (p, (q, z))))))) = s .0 e in record { counter = c; outcome = o; room = m; reads = r; stopped = s; read-names = p; write-names = q; behind = z }),
-      λ v. s .1 (v .counter, (v .outcome, (v .room, (v .reads, (v .stopped, (v .read-names, (v .write-names, v .behind))))))),
+    let values = says-self (stores-in readers os (e - r) (drop (entry-at r) x)) in
+    let sets = reads and (writes and (values and says-self (zeros (drop (entry-at e) x)))) in
+    let s = says-le c m and (says-le o 3 and (says-le e c and (says-le r e and (says-self (eqb o 0 || eqb r e) and sets)))) in (
+      λ e. (let (c, (o, (m, (r, (s, (p, (q, (i, z)))))))) = s .0 e in record { counter = c; outcome = o; room = m; reads = r; stopped = s; read-names = p; write-names = q; write-values = i; behind = z }),
+      λ v. s .1 (v .counter, (v .outcome, (v .room, (v .reads, (v .stopped, (v .read-names, (v .write-names, (v .write-values, v .behind)))))))),
     )
 
 no-writes : (r e : ℕ) → r ≤ e → eqb (e - r) 0 ≡ eqb r e
 no-writes r e h =
     same (eqb (e - r) 0) (eqb r e) (λ k. let z = eqb-true (e - r) 0 k in eq-eqb r e (omega arith)) (λ k. let z = eqb-true r e k in eq-eqb (e - r) 0 (omega arith))
 
-module _ (n m most : ℕ) (small : m ≤ most) (x : List ℕ) (len : length x ≡ 9 + 2 * most) where
+module _ (n readers : ℕ) (os : List ℕ) (bs : List Bounds) (said : Said n readers os bs) (m most : ℕ) (small : m ≤ most) (x : List ℕ) (len : length x ≡ 9 + 2 * most) where
   abbrev framed : Bool
   framed = (leb (entries-in x) most && zeros (drop (entry-at (entries-in x)) x)) && leb (reads-in x) (entries-in x)
 
   framed-is : row most .ok x ≡ framed
   framed-is = row-ok most x (len ∙ sym (row-size most))
 
-  begun-to : 0 < counter-in x → Begun n m x → Asked n m most x ≡ true
+  begun-to : 0 < counter-in x → Begun readers os n m x → Asked n bs m most x ≡ true
   begun-to h b =
       let l = b .room in
       let r = b .counter in
       let k : entries-in x ≤ most = omega arith in
       let one : reads-in x + (entries-in x - reads-in x) ≡ entries-in x = omega (arith, b .reads) in
       let ok : row most .ok x ≡ true = framed-is ∙ rw (le-leb (entries-in x) most k, b .behind, le-leb (reads-in x) (entries-in x) (b .reads)) in
-      let shape : run-shaped n m (row most .dec x .1) ≡ true =
-      run-is-tested n m most x len (b .reads) k
-      ∙ rw (lt-ltb 0 (counter-in x) h, le-leb (counter-in x) m (b .counter), le-leb (outcome-in x) 2 (b .outcome), no-writes (reads-in x) (entries-in x) (b .reads), b .stopped, one)
-      (rw (le-leb (entries-in x) (counter-in x) (b .room), b .read-names, b .write-names)) in
+      let values = sym (write-stores x (reads-in x) (entries-in x) (b .reads) n readers os bs said (b .write-names)) ∙ b .write-values in
+      let shape : run-shaped n bs m (row most .dec x .1) ≡ true =
+      run-is-tested n bs m most x len (b .reads) k
+      ∙ rw (lt-ltb 0 (counter-in x) h, le-leb (counter-in x) m (b .counter), le-leb (outcome-in x) 3 (b .outcome), no-writes (reads-in x) (entries-in x) (b .reads), b .stopped, one)
+      (rw (le-leb (entries-in x) (counter-in x) (b .room), b .read-names, b .write-names, values)) in
       ap₂ _&&_ ok shape
 
-  module _ (e : Asked n m most x ≡ true) where
-    parts : ((entries-in x ≤ most) × (reads-in x ≤ entries-in x)) × (zeros (drop (entry-at (entries-in x)) x) ≡ true) × (run-shaped n m (row most .dec x .1) ≡ true)
+  module _ (e : Asked n bs m most x ≡ true) where
+    parts : ((entries-in x ≤ most) × (reads-in x ≤ entries-in x)) × (zeros (drop (entry-at (entries-in x)) x) ≡ true) × (run-shaped n bs m (row most .dec x .1) ≡ true)
     parts =
-        let (o, s) = both (row most .ok x) (run-shaped n m (row most .dec x .1)) e in
+        let (o, s) = both (row most .ok x) (run-shaped n bs m (row most .dec x .1)) e in
         let (f, r) = both (leb (entries-in x) most && zeros (drop (entry-at (entries-in x)) x)) (leb (reads-in x) (entries-in x)) (sym framed-is ∙ o) in
         let (k, z) = both (leb (entries-in x) most) (zeros (drop (entry-at (entries-in x)) x)) f in
         ((leb-true (entries-in x) most k, leb-true (reads-in x) (entries-in x) r), z, s)
 
-    tests : run-tests n m (counter-in x) (outcome-in x) (take 4 (drop 3 x)) x (reads-in x) (entries-in x) (parts .0 .1) ≡ true
-    tests = sym (run-is-tested n m most x len (parts .0 .1) (parts .0 .0)) ∙ parts .2
+    tests : run-tests n bs m (counter-in x) (outcome-in x) (take 4 (drop 3 x)) x (reads-in x) (entries-in x) (parts .0 .1) ≡ true
+    tests = sym (run-is-tested n bs m most x len (parts .0 .1) (parts .0 .0)) ∙ parts .2
 
     -- as facts: the first is of one at its start
-    known : (ltb 0 (counter-in x) || (eqb (counter-in x) 0 && eqb (outcome-in x) 0 && eqb (reads-in x) 0 && eqb (entries-in x - reads-in x) 0 && zeros (take 4 (drop 3 x))) ≡ true) × Begun n m x
+    known : (ltb 0 (counter-in x) || (eqb (counter-in x) 0 && eqb (outcome-in x) 0 && eqb (reads-in x) 0 && eqb (entries-in x - reads-in x) 0 && zeros (take 4 (drop 3 x))) ≡ true) × Begun readers os n m x
     known =
         let k = counter-in x in
         let u = outcome-in x in
         let r = reads-in x in
         let b = entries-in x in
+        let h = parts .0 .1 in
         let reads = says-self (names-in n r (drop (entry-at 0) x)) in
         let writes = says-self (names-in n (b - r) (drop (entry-at r) x)) in
         let started = says-self (ltb 0 k || (eqb k 0 && eqb u 0 && eqb r 0 && eqb (b - r) 0 && zeros (take 4 (drop 3 x)))) in
-        let s = started and says-le k m and says-le u 2 and says-self (eqb u 0 || eqb (b - r) 0) and says-le (r + (b - r)) k and reads and writes in
-        let ((((((a, c), o), t), l), p), q) = s .0 tests in
-        let h = parts .0 .1 in
-        (a, record { counter = c; outcome = o; room = omega arith; reads = h; stopped = ap (λ (u : Bool). eqb (outcome-in x) 0 || u) (sym (no-writes r b h)) ∙ t; read-names = p; write-names = q; behind = parts .1 })
+        let s = started and says-le k m and says-le u 3 and says-self (eqb u 0 || eqb (b - r) 0) and says-le (r + (b - r)) k and reads and writes and says-self (stores-inside bs (drop r (both-in x r b h))) in
+        let (((((((a, c), o), t), l), p), q), i) = s .0 tests in (
+          a,
+          record {
+            counter = c;
+            outcome = o;
+            room = omega arith;
+            reads = h;
+            stopped = ap (λ (u : Bool). eqb (outcome-in x) 0 || u) (sym (no-writes r b h)) ∙ t;
+            read-names = p;
+            write-names = q;
+            write-values = write-stores x r b h n readers os bs said q ∙ i;
+            behind = parts .1;
+          },
+        )
 
 start-back : (o f g h i r e : ℕ) (t : List ℕ) → eqb o 0 && eqb r 0 && eqb (e - r) 0 && zeros (f ∷ g ∷ h ∷ i ∷ []) ≡ true → zeros (drop (e * 2) t) ≡ true → r ≤ e → zeros (o ∷ f ∷ g ∷ h ∷ i ∷ r ∷ e ∷ t) ≡ true
 start-back o f g h i r e t k z l =
@@ -266,10 +289,10 @@ start-back o f g h i r e t k z l =
     let zt : zeros t ≡ true = ap (λ (u : ℕ). zeros (drop (u * 2) t)) (sym n) ∙ z in
     rw (o0, f0, g0, h0, i0, r0, eq-eqb e 0 n, zt)
 
-module _ (n m most : ℕ) (small : m ≤ most) (x : List ℕ) (len : length x ≡ 9 + 2 * most) where
-  start-from : counter-in x ≡ 0 → Asked n m most x ≡ true → zeros (drop 2 x) ≡ true
+module _ (n readers : ℕ) (os : List ℕ) (bs : List Bounds) (said : Said n readers os bs) (m most : ℕ) (small : m ≤ most) (x : List ℕ) (len : length x ≡ 9 + 2 * most) where
+  start-from : counter-in x ≡ 0 → Asked n bs m most x ≡ true → zeros (drop 2 x) ≡ true
   start-from c a =
-      let (s, b) = known n m most small x len a in
+      let (s, b) = known n readers os bs said m most small x len a in
       go′ (nine-of x (omega arith)) c (b .reads) (b .behind) (either (ltb 0 (counter-in x)) (eqb (counter-in x) 0 && eqb (outcome-in x) 0 && eqb (reads-in x) 0 && eqb (entries-in x - reads-in x) 0 && zeros (take 4 (drop 3 x))) s)
     where
       go′ : {x : List ℕ} → Nine x → counter-in x ≡ 0 → reads-in x ≤ entries-in x → zeros (drop (entry-at (entries-in x)) x) ≡ true
@@ -280,12 +303,12 @@ module _ (n m most : ℕ) (small : m ≤ most) (x : List ℕ) (len : length x �
           start-back o f g h i r e t (rw (eq-eqb c 0 c0) at k) (ap zeros (drop-drop (e * 2) 9 (a ∷ c ∷ o ∷ f ∷ g ∷ h ∷ i ∷ r ∷ e ∷ t)) ∙ z) l
 
   -- a run in the scan is what both tests ask
-  pub run-is : run-in n m x ≡ row most .ok x && run-shaped n m (row most .dec x .1)
+  pub run-is : run-in readers os n m x ≡ row most .ok x && run-shaped n bs m (row most .dec x .1)
   unfolding run-in
   run-is = go′ (eqb (counter-in x) 0) refl
     where
-      go′ : (b : Bool) → eqb (counter-in x) 0 ≡ b → cond b (zeros (drop 2 x)) (begun-in n m x) ≡ Asked n m most x
-      go′ true e = let c = eqb-true (counter-in x) 0 e in same (zeros (drop 2 x)) (Asked n m most x) (start-to n m most x len c) (start-from c)
+      go′ : (b : Bool) → eqb (counter-in x) 0 ≡ b → cond b (zeros (drop 2 x)) (begun-in readers os n m x) ≡ Asked n bs m most x
+      go′ true e = let c = eqb-true (counter-in x) 0 e in same (zeros (drop 2 x)) (Asked n bs m most x) (start-to n bs m most x len c) (start-from c)
       go′ false e =
           let c = eqb-false (counter-in x) 0 e in
-          same (begun-in n m x) (Asked n m most x) (λ h. begun-to n m most small x len (omega arith) (begun-says n m x .0 h)) (λ h. begun-says n m x .1 (known n m most small x len h .1))
+          same (begun-in readers os n m x) (Asked n bs m most x) (λ h. begun-to n readers os bs said m most small x len (omega arith) (begun-says readers os n m x .0 h)) (λ h. begun-says readers os n m x .1 (known n readers os bs said m most small x len h .1))

@@ -13,31 +13,34 @@ use Rattle.cells.specs.Cells.{cells, Below}
 use Rattle.cells.specs.Zeros.{zeros}
 use Rattle.cells.specs.CellLaws.{length-cells}
 use Rattle.operation.specs.Body.{is-well-formed}
+use Rattle.execution.specs.Bounds.{Bounds, no-bounds, ordered}
 use Rattle.execution.specs.ReadAgreement.{both}
 use Rattle.model.specs.declared.Limits.{Limits}
-use Rattle.model.specs.Lists.{all}
+use Rattle.model.specs.Lists.{all, all₂}
 use Rattle.model.specs.Calls.{Transaction, last-timestamp}
 use Rattle.model.specs.Serial.{Version}
 use Rattle.model.specs.Replica.{Pending, Replica, opens}
 use Rattle.model.specs.EarlyResults.{sents}
 use Rattle.model.specs.Tests.{Says, _and_, says-self}
-use Rattle.model.specs.Shape.{distinct-keys, size-of}
+use Rattle.model.specs.Shape.{versions-inside, distinct-keys, size-of}
 use Rattle.model.specs.ShapeCheck.{versions-shaped, key-unspent, run-shaped, in-order, shaped}
-use Rattle.versions.specs.Block.{blocks-ok}
+use Rattle.versions.specs.Block.{block-versions, block-of, blocks-ok}
 use Rattle.layout.specs.Rows.{chunks}
 use Rattle.layout.specs.RowLaws.{length-chunks}
 use Rattle.layout.specs.Layout.{reader-of, object, record-area, row, body, body-area, Areas, parse, lengths, laid}
 use Rattle.layout.specs.Offsets.{Sane, object-width, object-at, pending-at, row-width, row-at, record-length, body-width, body-at, bodies-length}
 use Rattle.layout.specs.Field.{drop-take}
 use Rattle.layout.specs.Fields.{sizes}
-use Rattle.layout.specs.Unchecked.{chunks-take, size-in, pending-in, blocks-in, laid-is, parsed-timestamp, parsed-lasts, parsed-readers, parsed-objects, parsed-pending}
+use Rattle.layout.specs.Unchecked.{chunks-take, size-in, pending-in, blocks-in, laid-is, parsed-timestamp, parsed-lasts, parsed-readers, parsed-objects, parsed-bounds, parsed-pending}
+use Rattle.layout.specs.ObjectBlock.{versions-said, bounds-said}
 use Rattle.layout.specs.Fit.{fit}
 use Rattle.layout.specs.Core.{core, fit-core}
-use Rattle.shape_objects.specs.ObjectScan.{below, readers-of, lasts-of, header-in, objects-in}
+use Rattle.shape_objects.specs.ObjectScan.{below, readers-of, lasts-of, objects-of, header-in, objects-in}
 use Rattle.shape.specs.AreaScan.{used-in, pending-part, scan}
 use Rattle.shape.specs.Leaves.{same}
+use Rattle.shape.specs.Stores.{Said, bounds-are-said}
 use Rattle.shape.specs.Table.{transactions-in, Asked, rows-say}
-use Rattle.shape.specs.Objects.{readers-are, blocks-are}
+use Rattle.shape.specs.Objects.{readers-are, all-versions, all-bounds, objects-asked, blocks-are}
 
 module _ (l : Limits) (a : Areas) (e : length (a .0) ≡ record-length l) (f : length (a .1) ≡ bodies-length l) where
   abbrev w : List ℕ
@@ -50,10 +53,13 @@ module _ (l : Limits) (a : Areas) (e : length (a .0) ≡ record-length l) (f : l
   k = pending-in l w
 
   abbrev versions-of : List (List Version)
-  versions-of = map (object l .dec) (blocks-in l w)
+  versions-of = all-versions l (blocks-in l w)
+
+  abbrev bounds-of : List Bounds
+  bounds-of = all-bounds l (blocks-in l w)
 
   abbrev pending-of : List Pending
-  pending-of = transactions-in (l .operations) n (lasts-of w) k (drop (row-at l 0) w) (a .1)
+  pending-of = transactions-in (l .operations) n bounds-of (lasts-of w) k (drop (row-at l 0) w) (a .1)
 
   abbrev open-of : List ℕ
   open-of = opens (map reader-of (readers-of l w))
@@ -67,20 +73,34 @@ module _ (l : Limits) (a : Areas) (e : length (a .0) ≡ record-length l) (f : l
     pub few-objects : leb n (l .objects) ≡ true
     pub blocks : all (object l .ok) (blocks-in l w) ≡ true
     pub versions : all (versions-shaped (getD w 0 0) open-of) versions-of ≡ true
+    pub ordered : all ordered bounds-of ≡ true
+    pub inside : all₂ versions-inside bounds-of versions-of ≡ true
     pub behind-objects : zeros (slice (object-at l n) (pending-at l) w) ≡ true
     pub few-pending : leb k (l .pending) ≡ true
-    pub transactions : Asked (l .operations) n (lasts-of w) true k (drop (row-at l 0) w) (a .1)
+    pub transactions : Asked (l .operations) n bounds-of (lasts-of w) true k (drop (row-at l 0) w) (a .1)
     pub behind-rows : zeros (slice (row-at l k) (row-at l (l .pending)) w) ≡ true
     pub behind-bodies : zeros (drop (body-at l k) (a .1)) ≡ true
 
   -- ---- the scan
 
-  blocks-here : n ≤ l .objects → blocks-ok (l .readers) (getD w 0 0) (readers-of l w) n (slice (object-at l 0) (object-at l n) w) ≡ all (object l .ok) (blocks-in l w) && all (versions-shaped (getD w 0 0) open-of) versions-of
-  blocks-here h =
+  blocks-lent : chunks (object-width l) n (objects-of l w) ≡ blocks-in l w
+  blocks-lent =
       let d : object-at l n - object-at l 0 ≡ n * object-width l = omega arith in
-      blocks-are l (getD w 0 0) (readers-of l w) n (slice (object-at l 0) (object-at l n) w)
-      ∙ ap (λ (bs : List (List ℕ)). all (object l .ok) bs && all (versions-shaped (getD w 0 0) open-of) (map (object l .dec) bs))
-      (ap (chunks (object-width l) n) (drop-take (object-at l 0) (object-at l n) w ∙ ap (λ (i : ℕ). take i (drop (object-at l 0) w)) d) ∙ chunks-take (object-width l) n (n * object-width l) (drop (object-at l 0) w) (omega arith))
+      ap (chunks (object-width l) n) (drop-take (object-at l 0) (object-at l n) w ∙ ap (λ (i : ℕ). take i (drop (object-at l 0) w)) d)
+      ∙ chunks-take (object-width l) n (n * object-width l) (drop (object-at l 0) w) (omega arith)
+
+  -- what the scan asks of the objects
+  objects-say : Says (blocks-ok (l .readers) (getD w 0 0) (readers-of l w) n (objects-of l w))
+      (((all (object l .ok) (blocks-in l w) ≡ true) × (all (versions-shaped (getD w 0 0) open-of) versions-of ≡ true)) × ((all ordered bounds-of ≡ true) × (all₂ versions-inside bounds-of versions-of ≡ true)))
+  objects-say =
+      let e = blocks-are l (getD w 0 0) (readers-of l w) n (objects-of l w) ∙ ap (objects-asked l (getD w 0 0) open-of) blocks-lent in
+      let versions = says-self (all (object l .ok) (blocks-in l w)) and says-self (all (versions-shaped (getD w 0 0) open-of) versions-of) in
+      let s = versions and (says-self (all ordered bounds-of) and says-self (all₂ versions-inside bounds-of versions-of)) in
+      (λ b. s .0 (sym e ∙ b), λ v. e ∙ s .1 v)
+
+  bounds-here : Said n (l .readers) (objects-of l w) bounds-of
+  bounds-here o h =
+      bounds-are-said (l .readers) n (objects-of l w) o h ∙ ap (λ (os : List (List ℕ)). getD (all-bounds l os) o no-bounds) blocks-lent
 
   rows-room : k ≤ l .pending → (k * row-width l ≤ length (drop (row-at l 0) w)) × (k * body-width l ≤ length (a .1))
   rows-room h =
@@ -93,14 +113,12 @@ module _ (l : Limits) (a : Areas) (e : length (a .0) ≡ record-length l) (f : l
   scan-says =
       let t = getD w 0 0 in
       let header = says-self (leb t last-timestamp) and (says-self (below (2 ^ 32) (lasts-of w)) and says-self (below (t + 2) (readers-of l w))) in
-      let versions = says-self (blocks-ok (l .readers) t (readers-of l w) n (slice (object-at l 0) (object-at l n) w)) in
-      let objects = says-self (leb 1 n) and (says-self (leb n (l .objects)) and (versions and says-self (zeros (slice (object-at l n) (pending-at l) w)))) in
+      let objects = says-self (leb 1 n) and (says-self (leb n (l .objects)) and (objects-say and says-self (zeros (slice (object-at l n) (pending-at l) w)))) in
       let unused = says-self (zeros (slice (row-at l k) (row-at l (l .pending)) w)) and says-self (zeros (drop (body-at l k) (a .1))) in
       let pending = says-self (leb k (l .pending)) and (says-self (used-in l k w (a .1)) and unused) in
       let s = header and (objects and pending) in (
         λ z.
-            (let ((ts, (ls, rs)), ((one, (few, (bs, zo))), (ks, (ws, (zr, zb))))) = s .0 z in
-            let (ok, vs) = both (all (object l .ok) (blocks-in l w)) (all (versions-shaped t open-of) versions-of) (sym (blocks-here (leb-true n (l .objects) few)) ∙ bs) in
+            (let ((ts, (ls, rs)), ((one, (few, (((ok, vs), (low, ins)), zo))), (ks, (ws, (zr, zb))))) = s .0 z in
             let room = rows-room (leb-true k (l .pending) ks) in
             record {
               timestamp = ts;
@@ -110,18 +128,19 @@ module _ (l : Limits) (a : Areas) (e : length (a .0) ≡ record-length l) (f : l
               few-objects = few;
               blocks = ok;
               versions = vs;
+              ordered = low;
+              inside = ins;
               behind-objects = zo;
               few-pending = ks;
-              transactions = rows-say (l .operations) n (lasts-of w) k true (drop (row-at l 0) w) (a .1) (room .0) (room .1) .0 ws;
+              transactions = rows-say (l .operations) n bounds-of (lasts-of w) (l .readers) (objects-of l w) bounds-here k true (drop (row-at l 0) w) (a .1) (room .0) (room .1) .0 ws;
               behind-rows = zr;
               behind-bodies = zb;
             }),
         λ v.
             (let room = rows-room (leb-true k (l .pending) (v .few-pending)) in
-            let bs = blocks-here (leb-true n (l .objects) (v .few-objects)) ∙ ap₂ _&&_ (v .blocks) (v .versions) in
-            let ws = rows-say (l .operations) n (lasts-of w) k true (drop (row-at l 0) w) (a .1) (room .0) (room .1) .1 (v .transactions) in
+            let ws = rows-say (l .operations) n bounds-of (lasts-of w) (l .readers) (objects-of l w) bounds-here k true (drop (row-at l 0) w) (a .1) (room .0) (room .1) .1 (v .transactions) in
             let rs = readers-are t (readers-of l w) ∙ v .readers in
-            s .1 ((v .timestamp, (v .lasts, rs)), ((v .some-object, (v .few-objects, (bs, v .behind-objects))), (v .few-pending, (ws, (v .behind-rows, v .behind-bodies)))))),
+            s .1 ((v .timestamp, (v .lasts, rs)), ((v .some-object, (v .few-objects, (((v .blocks, v .versions), (v .ordered, v .inside)), v .behind-objects))), (v .few-pending, (ws, (v .behind-rows, v .behind-bodies)))))),
       )
 
   -- ---- the definitions
@@ -129,27 +148,31 @@ module _ (l : Limits) (a : Areas) (e : length (a .0) ≡ record-length l) (f : l
   -- what is parsed, where the counts are within their limits
   abbrev parsed : Replica
   parsed =
-      record { timestamp = getD w 0 0; objects = versions-of; lasts = lasts-of w; pending = pending-of; readers = map reader-of (readers-of l w) }
+      record { timestamp = getD w 0 0; objects = versions-of; lasts = lasts-of w; pending = pending-of; readers = map reader-of (readers-of l w); bounds = bounds-of }
 
   parsed-is : n ≤ l .objects → k ≤ l .pending → parse l a ≡ parsed
   parsed-is h g =
-      λ i. record { timestamp = parsed-timestamp l a e i; objects = parsed-objects l a e h i; lasts = parsed-lasts l a e i; pending = parsed-pending l a e g i; readers = parsed-readers l a e i }
+      let objects = parsed-objects l a e h ∙ versions-said l (blocks-in l w) in
+      let bounds = parsed-bounds l a e h ∙ bounds-said l (blocks-in l w) in
+      λ i. record { timestamp = parsed-timestamp l a e i; objects = objects i; lasts = parsed-lasts l a e i; pending = parsed-pending l a e g i; readers = parsed-readers l a e i; bounds = bounds i }
 
   object-count : length versions-of ≡ n
   object-count =
-      length-map (blocks-in l w) (object l .dec) ∙ length-chunks (object-width l) n (drop (object-at l 0) w)
+      length-map (blocks-in l w) (λ oc. block-versions (block-of (l .readers) oc)) ∙ length-chunks (object-width l) n (drop (object-at l 0) w)
 
   -- the check on what is parsed, over m objects
   abbrev core-of : ℕ → Bool
   core-of m =
       ltb 0 m
       && all (versions-shaped (getD w 0 0) open-of) versions-of
+      && all ordered bounds-of
+      && all₂ versions-inside bounds-of versions-of
       && all (λ r. leb r (getD w 0 0)) open-of
       && distinct-keys (sents pending-of)
       && all (key-unspent (lasts-of w)) (sents pending-of)
       && all (λ (s : Transaction). is-well-formed (l .operations) m (s .bytes)) (sents pending-of)
       && in-order true pending-of
-      && all (λ (j : Pending). run-shaped m (size-of j) (j .run)) pending-of
+      && all (λ (j : Pending). run-shaped m bounds-of (size-of j) (j .run)) pending-of
       && (leb (getD w 0 0) last-timestamp && all (λ s. ltb s (2 ^ 32)) (lasts-of w))
 
   core-is : n ≤ l .objects → k ≤ l .pending → core l (parse l a) ≡ core-of n
@@ -167,17 +190,19 @@ module _ (l : Limits) (a : Areas) (e : length (a .0) ≡ record-length l) (f : l
       let bodies = says-self (leb k (l .pending)) and (says-self (all (body (l .operations) .ok) bs) and says-self (zeros (drop (body-at l k) (a .1)))) in
       let laids = (objects and rows) and bodies in
       let versions = says-self (all (versions-shaped (getD w 0 0) open-of) versions-of) in
+      let bounds = says-self (all ordered bounds-of) in
+      let insides = says-self (all₂ versions-inside bounds-of versions-of) in
       let open-readers = says-self (all (λ r. leb r (getD w 0 0)) open-of) in
       let unspent = says-self (all (key-unspent (lasts-of w)) (sents js)) in
       let formed = says-self (all (λ (s : Transaction). is-well-formed (l .operations) n (s .bytes)) (sents js)) in
-      let runs = says-self (all (λ (j : Pending). run-shaped n (size-of j) (j .run)) js) in
+      let runs = says-self (all (λ (j : Pending). run-shaped n bounds-of (size-of j) (j .run)) js) in
       let header = says-self (leb (getD w 0 0) last-timestamp) and says-self (all (λ s. ltb s (2 ^ 32)) (lasts-of w)) in
-      let cores = says-self (ltb 0 n) and versions and open-readers and says-self (distinct-keys (sents js)) and unspent and formed and says-self (in-order true js) and runs and header in (
+      let cores = says-self (ltb 0 n) and versions and bounds and insides and open-readers and says-self (distinct-keys (sents js)) and unspent and formed and says-self (in-order true js) and runs and header in (
         λ z.
             (let (o, c) = both (laid l a) (core l (parse l a)) z in
             let (((few, (ok, zo)), (ks, (rok, zr))), (ks′, (bok, zb))) = laids .0 (sym (laid-is l a e) ∙ o) in
             let c = sym (core-is (leb-true n (l .objects) few) (leb-true k (l .pending) ks)) ∙ c in
-            let ((((((((one, vs), rs), ds), us), fs), os), ss), (ts, ls)) = cores .0 c in
+            let ((((((((((one, vs), low), ins), rs), ds), us), fs), os), ss), (ts, ls)) = cores .0 c in
             record {
               timestamp = ts;
               lasts = ls;
@@ -186,6 +211,8 @@ module _ (l : Limits) (a : Areas) (e : length (a .0) ≡ record-length l) (f : l
               few-objects = few;
               blocks = ok;
               versions = vs;
+              ordered = low;
+              inside = ins;
               behind-objects = zo;
               few-pending = ks;
               transactions = record { rows-ok = rok; bodies-ok = bok; distinct = ds; unspent = us; formed = fs; order = os; shaped = ss };
@@ -196,7 +223,7 @@ module _ (l : Limits) (a : Areas) (e : length (a .0) ≡ record-length l) (f : l
             (let q = v .transactions in
             let few = core-is (leb-true n (l .objects) (v .few-objects)) (leb-true k (l .pending) (v .few-pending)) in
             ap₂ _&&_ (laid-is l a e ∙ laids .1 (((v .few-objects, (v .blocks, v .behind-objects)), (v .few-pending, (q .rows-ok, v .behind-rows))), (v .few-pending, (q .bodies-ok, v .behind-bodies))))
-            (few ∙ cores .1 ((((((((v .some-object, v .versions), v .readers), q .distinct), q .unspent), q .formed), q .order), q .shaped), (v .timestamp, v .lasts)))),
+            (few ∙ cores .1 ((((((((((v .some-object, v .versions), v .ordered), v .inside), v .readers), q .distinct), q .unspent), q .formed), q .order), q .shaped), (v .timestamp, v .lasts)))),
       )
 
   pub scan-is : scan l a ≡ laid l a && core l (parse l a)
@@ -226,6 +253,14 @@ pub header-timestamp : (l : Limits) (w : List ℕ) → header-in l w ≡ true �
 unfolding header-in
 header-timestamp l w e =
     leb-true (getD w 0 0) last-timestamp (both (leb (getD w 0 0) last-timestamp) (below (2 ^ 32) (lasts-of w) && below (getD w 0 0 + 2) (readers-of l w)) e .0)
+
+-- those whose objects pass have no more of them than the limit
+pub objects-few : (l : Limits) (w : List ℕ) → objects-in l w ≡ true → size-in l w ≤ l .objects
+unfolding objects-in
+objects-few l w e =
+    let blocks = blocks-ok (l .readers) (getD w 0 0) (readers-of l w) (size-in l w) (objects-of l w) && zeros (slice (object-at l (size-in l w)) (pending-at l) w) in
+    let (one, e) = both (leb 1 (size-in l w)) (leb (size-in l w) (l .objects) && blocks) e in
+    leb-true (size-in l w) (l .objects) (both (leb (size-in l w) (l .objects)) blocks e .0)
 
 -- ---- part by part
 

@@ -38,6 +38,11 @@ module _ (xs : List ℕ) (f t : ℕ) where
       let e : 17 + l .readers - 17 ≡ l .readers = omega arith in
       ap₂ (λ (f t : ℕ). cells (part f t xs)) fe te ∙ part-cells 17 (17 + l .readers) xs ∙ ap (λ (k : ℕ). take k (drop 17 (cells xs))) e
 
+  -- n objects
+  pub objects-part : (l : Limits) (n : ℕ) → f ≡ object-at l 0 → t ≡ object-at l n → cells (part f t xs) ≡ slice (object-at l 0) (object-at l n) (cells xs)
+  objects-part l n fe te =
+      ap₂ (λ (f t : ℕ). cells (part f t xs)) fe te ∙ part-cells (object-at l 0) (object-at l n) xs ∙ sym (drop-take (object-at l 0) (object-at l n) (cells xs))
+
 -- ---- the header
 
 module _ (l : Limits) (xs : List ℕ) (t : ℕ) (e : t ≡ getD (cells xs) 0 0) where
@@ -99,7 +104,7 @@ module _ (l : Limits) (xs : List ℕ) (n : ℕ) (e : n ≡ size-in l (cells xs))
       versions-here : p ≡ versions
       versions-here =
           h ∙ ap₂ (λ (t : ℕ) (rc : List ℕ). blocks-ok (l .readers) t rc n (cells (part f g xs))) te (readers-part xs r s l re se)
-          ∙ ap (blocks-ok (l .readers) (getD w 0 0) (readers-of l w) n) (ap₂ (λ (f g : ℕ). cells (part f g xs)) fe ge ∙ part-cells (object-at l 0) (object-at l n) xs ∙ sym (drop-take (object-at l 0) (object-at l n) w))
+          ∙ ap (blocks-ok (l .readers) (getD w 0 0) (readers-of l w) n) (objects-part xs f g l n fe ge)
 
       objects-more : objects-in l w ≡ p && behind
       objects-more =

@@ -24,6 +24,10 @@ readers-of l w = take (l .readers) (drop (reader-at 0) w)
 abbrev pub lasts-of : List ℕ → List ℕ
 lasts-of w = take clients (drop (last-at 0) w)
 
+-- the objects' cells: each one's versions and bounds
+abbrev pub objects-of : Limits → List ℕ → List ℕ
+objects-of l w = slice (object-at l 0) (object-at l (size-in l w)) w
+
 -- timestamp, last numbers, readers
 unfoldable pub header-in : Limits → List ℕ → Bool
 header-in l w =
@@ -33,4 +37,4 @@ header-in l w =
 unfoldable pub objects-in : Limits → List ℕ → Bool
 objects-in l w =
     leb 1 (size-in l w) && (leb (size-in l w) (l .objects)
-    && (blocks-ok (l .readers) (getD w 0 0) (readers-of l w) (size-in l w) (slice (object-at l 0) (object-at l (size-in l w)) w) && zeros (slice (object-at l (size-in l w)) (pending-at l) w)))
+    && (blocks-ok (l .readers) (getD w 0 0) (readers-of l w) (size-in l w) (objects-of l w) && zeros (slice (object-at l (size-in l w)) (pending-at l) w)))

@@ -1,4 +1,5 @@
-// The shape check of the header and the objects (document 01, "Shape check"): timestamp, last numbers, readers, versions, and zeros behind them.
+// The shape check of the header and the objects (document 01, "Shape check"): timestamp, last numbers, readers, versions with bounds, and zeros behind
+// them.
 use model::Limits;
 ghost use mathlib.Core.Path.{_≡_};
 ghost use Prim.Native.Nat.{_*_, _≤_};
@@ -45,7 +46,7 @@ pub fn header_ok(records: &[u8], l: Limits) -> bool
     false
 }
 
-// The number of objects n, their versions beside the readers, and zeros where there might be more objects.
+// The number of objects n, their versions beside the readers and inside their bounds, and zeros where there might be more objects.
 pub fn objects_ok(records: &[u8], l: Limits) -> bool
     requires { ⌜ Record l (now records) × (getD (cells (now records)) 0 0 ≤ last-timestamp) ⌝ }
     ensures { λ r. ⌜ r ≡ objects-in l (cells (now (records .entry))) ⌝ }

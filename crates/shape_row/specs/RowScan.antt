@@ -1,15 +1,20 @@
 -- The shape check of one row and its body as the code goes. Assumes nothing.
--- n is the number of objects, most the limit of a body's operations, m the number of a body's operations, x the cells of a row, y a place for a body.
-use mathlib.Core.Bool.{Bool, cond, _&&_, _||_}
+-- n is the number of objects, os their cells, one object after another, readers the number of readers, most the limit of a body's operations, m the
+-- number of a body's operations, x the cells of a row, y a place for a body.
+use mathlib.Core.Bool.{Bool, true, cond, _&&_, _||_}
 use mathlib.Core.List.{List}
-use Prim.Native.Nat.{ℕ, _+_, _-_, _*_, _/_, _%_, _^_}
+use Prim.Native.Nat.{ℕ, zero, suc, _+_, _-_, _*_, _/_, _%_, _^_}
 use lib.Dec.{eqb, leb, ltb}
 use lib.ListN.{length, take, drop, getD}
+use mir.Syntax.{w64}
+use mir.Val.{toZ}
 use Rattle.cells.specs.Zeros.{zeros}
 use Rattle.operation.specs.Body.{body-length, size, is-well-formed}
+use Rattle.execution.specs.Bounds.{Bounds, inside}
+use Rattle.model.specs.declared.Limits.{Limits}
 use Rattle.model.specs.Calls.{clients}
 use Rattle.shape_names.specs.NameScan.{names-in}
-use Rattle.layout.specs.Offsets.{counter-at, outcome-at, reads-at, entries-at, entry-at}
+use Rattle.layout.specs.Offsets.{object-width, lower-at, counter-at, outcome-at, reads-at, entries-at, entry-at}
 
 -- cells of a row, bytes of a place
 abbrev pub cells-of : ℕ → ℕ
@@ -17,6 +22,20 @@ cells-of most = 9 + 2 * most
 
 abbrev pub place-of : ℕ → ℕ
 place-of most = body-length most
+
+-- limits of so many readers: on them alone it depends how many cells an object has, and where its bounds lie
+abbrev pub with-readers : ℕ → Limits
+with-readers readers = record { objects = 0; pending = 0; readers = readers; operations = 0 }
+
+abbrev pub object-cells : ℕ → ℕ
+object-cells readers = object-width (with-readers readers)
+
+-- the cell of an object's lower bound; the upper one's is the next
+abbrev pub bound-cell : ℕ → ℕ → ℕ
+bound-cell readers o = o * object-cells readers + lower-at (with-readers readers)
+
+abbrev pub bounds-from : List ℕ → ℕ → Bounds
+bounds-from os i = record { lower = toZ w64 (getD os i 0); upper = toZ w64 (getD os (i + 1) 0) }
 
 -- the parts of a row that are looked at
 abbrev pub counter-in : List ℕ → ℕ
@@ -44,22 +63,30 @@ unfoldable pub body-in : ℕ → ℕ → List ℕ → Bool
 body-in most n y =
     leb (body-end y) (length y) && (is-well-formed most n (take (body-end y) y) && zeros (drop (body-end y) y))
 
--- reads and writes with the zeros behind them: r reads, e of both
-unfoldable pub sets-in : ℕ → ℕ → ℕ → List ℕ → Bool
-sets-in n r e x =
-    names-in n r (drop (entry-at 0) x) && (names-in n (e - r) (drop (entry-at r) x) && zeros (drop (entry-at e) x))
+-- k entries, each an object and a value: the value inside the object's bounds
+unfoldable pub stores-in : ℕ → List ℕ → ℕ → List ℕ → Bool
+stores-in readers os zero xs = true
+stores-in readers os (suc k) xs =
+    inside (bounds-from os (bound-cell readers (getD xs 0 0))) (toZ w64 (getD xs 1 0)) && stores-in readers os k (drop 2 xs)
+
+-- reads, writes, whose values lie inside their objects' bounds, and the zeros behind them: r reads, e of both
+unfoldable pub sets-in : ℕ → List ℕ → ℕ → ℕ → ℕ → List ℕ → Bool
+sets-in readers os n r e x =
+    names-in n r (drop (entry-at 0) x) && (names-in n (e - r) (drop (entry-at r) x) && (stores-in readers os (e - r) (drop (entry-at r) x) && zeros (drop (entry-at e) x)))
 
 -- a transaction that has begun: its counter c, outcome o, r reads, e reads and writes
-abbrev pub begun : ℕ → ℕ → ℕ → ℕ → ℕ → ℕ → List ℕ → Bool
-begun n m c o r e x = leb c m && (leb o 2 && (leb e c && (leb r e && ((eqb o 0 || eqb r e) && sets-in n r e x))))
+abbrev pub begun : ℕ → List ℕ → ℕ → ℕ → ℕ → ℕ → ℕ → ℕ → List ℕ → Bool
+begun readers os n m c o r e x =
+    leb c m && (leb o 3 && (leb e c && (leb r e && ((eqb o 0 || eqb r e) && sets-in readers os n r e x))))
 
-unfoldable pub begun-in : ℕ → ℕ → List ℕ → Bool
-begun-in n m x = begun n m (counter-in x) (outcome-in x) (reads-in x) (entries-in x) x
+unfoldable pub begun-in : ℕ → List ℕ → ℕ → ℕ → List ℕ → Bool
+begun-in readers os n m x = begun readers os n m (counter-in x) (outcome-in x) (reads-in x) (entries-in x) x
 
 -- one at its start is its key and zeros
-unfoldable pub run-in : ℕ → ℕ → List ℕ → Bool
-run-in n m x = cond (eqb (counter-in x) 0) (zeros (drop outcome-at x)) (begun-in n m x)
+unfoldable pub run-in : ℕ → List ℕ → ℕ → ℕ → List ℕ → Bool
+run-in readers os n m x = cond (eqb (counter-in x) 0) (zeros (drop outcome-at x)) (begun-in readers os n m x)
 
 -- one row and its body
-unfoldable pub row-in : ℕ → ℕ → List ℕ → List ℕ → List ℕ → Bool
-row-in most n lasts x y = key-in lasts (getD x 0 0) && (body-in most n y && run-in n (size y) x)
+unfoldable pub row-in : ℕ → ℕ → ℕ → List ℕ → List ℕ → List ℕ → List ℕ → Bool
+row-in most n readers os lasts x y =
+    key-in lasts (getD x 0 0) && (body-in most n y && run-in readers os n (size y) x)

@@ -1,5 +1,6 @@
 // The shape check of one row with the place of its body (document 01, "Shape check"): key, body, and the run's counter, outcome, read set and
-// write set. It looks at the part lent to it and knows nothing of the areas' layout.
+// write set, whose values lie inside their objects' bounds (document 02, S-1). It looks at the parts lent to it and knows nothing of the areas' layout.
+use model::Limits;
 ghost use mathlib.Core.Path.{_≡_};
 ghost use mathlib.Core.Bool.{_||_};
 ghost use Prim.Native.Nat.{_+_, _*_, _^_, _≤_, _<_};
@@ -7,8 +8,9 @@ ghost use lib.Dec.{eqb};
 ghost use lib.ListN.{length};
 ghost use Rattle.cells.specs.Cells.{cells};
 ghost use Rattle.operation.specs.Columns.{most-operations};
-ghost use Rattle.shape_row.specs.RowScan.{key-in, body-in, sets-in, run-in, row-in, cells-of, place-of};
-ghost use Rattle.shape_row.specs.LentRow.{Row};
+ghost use Rattle.execution.specs.Bounds.{inside};
+ghost use Rattle.shape_row.specs.RowScan.{key-in, body-in, bounds-from, stores-in, sets-in, run-in, row-in, cells-of, place-of};
+ghost use Rattle.shape_row.specs.LentRow.{Objects, Named, Row};
 
 // Is a key one of a client's, and unspent, its sequence number being above the client's last?
 fn key_ok(lasts: &[u8], key: u64) -> bool
@@ -46,17 +48,65 @@ pub fn row_cells(most: usize) -> usize
     layout::ROW_FIRST_ENTRY + layout::ENTRY_WIDTH * most
 }
 
-// The entries of a row: so many reads, then writes, so many of both, and zeros behind them.
-fn sets_ok(row: &[u8], most: usize, n: u64, reads: usize, both: usize) -> bool
-    requires { ⌜ (length (now row) ≡ cells-of most * 8) × (reads ≤ both) × (both ≤ most) ⌝ }
-    ensures { λ r. ⌜ r ≡ sets-in n reads both (cells (now (row .entry))) ⌝ }
+// May the object whose lower bound is this cell take the value? One at a bound is inside. Both tests without a branch.
+fn allows(objects: &[u8], lower: usize, value: i64) -> bool
+    requires { ⌜ (lower + 2) * 8 ≤ length (now objects) ⌝ }
+    ensures { λ r. ⌜ r ≡ inside (bounds-from (cells (now (objects .entry))) lower) value ⌝ }
+{
+    (cells::get_signed(objects, lower) <= value) & (value <= cells::get_signed(objects, lower + 1))
+}
+
+// Is the value of each of the first count entries inside the bounds of the entry's object, which is one of those lent? Where the bounds lie depends on
+// the readers alone, so that the other limits do not matter.
+fn stores_ok(entries: &[u8], objects: &[u8], readers: usize, count: usize) -> bool
+    requires { ⌜ (count * 16 ≤ length (now entries)) × Named readers count (cells (now entries)) (now objects) ⌝ }
+    ensures { λ r. ⌜ r ≡ stores-in readers (cells (now (objects .entry))) count (cells (now (entries .entry))) ⌝ }
+{
+    let l = Limits {
+        objects: 0,
+        pending: 0,
+        readers: readers,
+        operations: 0,
+    };
+    let width = layout::object_width(l);
+    let bounds = layout::bounds_at(l);
+    let mut at = 0;
+    let mut left = count;
+    while 0 < left {
+        let lower = cells::get(entries, at) as usize * width + bounds;
+        if allows(objects, lower, cells::get_signed(entries, at + 1)) {
+            at += 2;
+            left -= 1;
+        } else {
+            return false;
+        }
+    }
+    true
+}
+
+// The entries of a row: so many reads, then writes, so many of both, the writes inside their objects' bounds, and zeros behind them.
+fn sets_ok(
+    row: &[u8],
+    objects: &[u8],
+    readers: usize,
+    most: usize,
+    n: u64,
+    reads: usize,
+    both: usize,
+) -> bool
+    requires { ⌜ (length (now row) ≡ cells-of most * 8) × (reads ≤ both) × (both ≤ most) × Objects n readers (now objects) ⌝ }
+    ensures { λ r. ⌜ r ≡ sets-in readers (cells (now (objects .entry))) n reads both (cells (now (row .entry))) ⌝ }
 {
     let first = layout::ROW_FIRST_ENTRY * 8;
-    let writes = (layout::ROW_FIRST_ENTRY + reads * layout::ENTRY_WIDTH) * 8;
+    let from = (layout::ROW_FIRST_ENTRY + reads * layout::ENTRY_WIDTH) * 8;
+    let writes = &row[from..];
+    let stores = both - reads;
     let end = layout::ROW_FIRST_ENTRY + both * layout::ENTRY_WIDTH;
     if shape_names::names_ok(&row[first..], reads, n) {
-        if shape_names::names_ok(&row[writes..], both - reads, n) {
-            return cells::cells_zero(row, end, row_cells(most));
+        if shape_names::names_ok(writes, stores, n) {
+            if stores_ok(writes, objects, readers, stores) {
+                return cells::cells_zero(row, end, row_cells(most));
+            }
         }
     }
     false
@@ -71,9 +121,9 @@ fn stopped_ok(outcome: u64, reads: usize, both: usize) -> bool
 
 // A row's run, of a body of m operations: at its start all zeros, else counter, outcome, read set and write set within their limits. An operation
 // reads or writes one object at most, so that there are no more entries than operations before the counter.
-fn run_ok(row: &[u8], most: usize, n: u64, m: usize) -> bool
-    requires { ⌜ (length (now row) ≡ cells-of most * 8) × (m ≤ most) ⌝ }
-    ensures { λ r. ⌜ r ≡ run-in n m (cells (now (row .entry))) ⌝ }
+fn run_ok(row: &[u8], objects: &[u8], readers: usize, most: usize, n: u64, m: usize) -> bool
+    requires { ⌜ (length (now row) ≡ cells-of most * 8) × (m ≤ most) × Objects n readers (now objects) ⌝ }
+    ensures { λ r. ⌜ r ≡ run-in readers (cells (now (objects .entry))) n m (cells (now (row .entry))) ⌝ }
 {
     let counter = cells::get(row, layout::ROW_COUNTER) as usize;
     if counter == 0 {
@@ -85,7 +135,7 @@ fn run_ok(row: &[u8], most: usize, n: u64, m: usize) -> bool
     if m < counter {
         return false;
     }
-    if 2 < outcome {
+    if 3 < outcome {
         return false;
     }
     if counter < both {
@@ -95,19 +145,35 @@ fn run_ok(row: &[u8], most: usize, n: u64, m: usize) -> bool
         return false;
     }
     if stopped_ok(outcome, reads, both) {
-        return sets_ok(row, most, n, reads, both);
+        return sets_ok(row, objects, readers, most, n, reads, both);
     }
     false
 }
 
 // One row with the place of its body: its key, its body, and then its run, which is judged by the body's length.
-pub fn row_ok(row: &[u8], place: &[u8], lasts: &[u8], most: usize, n: usize) -> bool
-    requires { ⌜ Row most (now row) (now place) (now lasts) ⌝ }
-    ensures { λ r. ⌜ r ≡ row-in most n (cells (now (lasts .entry))) (cells (now (row .entry))) (now (place .entry)) ⌝ }
+pub fn row_ok(
+    row: &[u8],
+    place: &[u8],
+    lasts: &[u8],
+    objects: &[u8],
+    readers: usize,
+    most: usize,
+    n: usize,
+) -> bool
+    requires { ⌜ Row most n readers (now row) (now place) (now lasts) (now objects) ⌝ }
+    ensures { λ r. ⌜ r ≡ row-in most n readers (cells (now (objects .entry))) (cells (now (lasts .entry)))
+        (cells (now (row .entry))) (now (place .entry)) ⌝ }
 {
     if key_ok(lasts, cells::get(row, layout::ROW_KEY)) {
         if body_ok(place, most, n) {
-            return run_ok(row, most, n as u64, operation::small(place[0]));
+            return run_ok(
+                row,
+                objects,
+                readers,
+                most,
+                n as u64,
+                operation::small(place[0]),
+            );
         }
     }
     false

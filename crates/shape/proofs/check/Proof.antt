@@ -2,7 +2,7 @@
 use mathlib.Core.Path.{sym, _∙_}
 use borrow.Author.Needs.{needs}
 use Rattle.cells.specs.Cells.{cells}
-use Rattle.shape.specs.ScanIsShape.{fit-other, header-timestamp, fit-header, fit-objects, fit-pending}
+use Rattle.shape.specs.ScanIsShape.{fit-other, header-timestamp, objects-few, fit-header, fit-objects, fit-pending}
 use Rattle.shape.proofs.check.Statement.{statement}
 use Rattle.shape.proofs.check.Tie as tie
 
@@ -29,7 +29,14 @@ objects-ok-requires c κs = let d = c .before .before .before .before .before .b
     (record { sane = d .pre .0; few = d .pre .1; whole = c .before .before .before .before .if1 .left ∙ c .before .before .before .before .before .record-length .ensures }, header-timestamp (a .l) (cells (a .records .now)) (sym (c .before .header-ok .ensures) ∙ c .if3 .taken))
 
 pending-ok-requires : tie.Need-pending-ok-requires
-pending-ok-requires c κs = search needs
+pending-ok-requires c κs =
+    let at-objects = c .before in
+    let d = at-objects .before .before .before .before .before .before .before .before .before in
+    let a = d .args in (
+      search needs,
+      search needs,
+      objects-few (a .l) (cells (a .records .now)) (sym (at-objects .objects-ok .ensures) ∙ c .if4 .taken),
+    )
 
 returns-3 : tie.Need-returns-3
 returns-3 c = let d = c .before .before .before .before .before .before .before .before .before .before .before in

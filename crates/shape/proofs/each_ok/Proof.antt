@@ -4,6 +4,7 @@ use Prim.Native.Nat.{ℕ, _+_, _-_, _*_, _≤_}
 use native.Mathlib.Omega.{arith}
 use lib.ListN.{length, length-take, length-drop}
 use borrow.Author.Needs.{needs}
+use Rattle.cells.specs.Cells.{cells}
 use Rattle.shape_row.specs.RowScan.{cells-of, place-of}
 use Rattle.versions.specs.BlockLoops.{less-times}
 use Rattle.shape.specs.RowsWalk.{Walk, walk-on, walk-no, walk-end}
@@ -11,15 +12,16 @@ use Rattle.shape.proofs.each_ok.Statement.{statement}
 use Rattle.shape.proofs.each_ok.Tie as tie
 
 abbrev Inv-loop : tie.InvT-loop
-Inv-loop rows places lasts most n count width size at₀ from₀ left₀ finished₀ at from left finished = Walk most n count lasts rows places at from left finished
+Inv-loop rows places lasts objects readers most n count width size at₀ from₀ left₀ finished₀ at from left finished =
+    Walk most n readers count (cells objects) (cells lasts) rows places at from left finished
 
 abbrev μ-loop : tie.MeasureT-loop
-μ-loop rows places lasts most n count width size at₀ from₀ left₀ finished₀ at from left finished = left
+μ-loop rows places lasts objects readers most n count width size at₀ from₀ left₀ finished₀ at from left finished = left
 
 -- ---- waypoints: the entry; in a turn, that one row and one place more lie in what was lent
 
 abbrev start : tie.At-loop Inv-loop μ-loop → tie.Start Inv-loop μ-loop
-start c = c .before .before .before .before .before .before
+start c = c .before .before .before .before .before .before .before
 
 row-inside : (c : tie.In-loop Inv-loop μ-loop) → (let l = c .before in l .loop .at + cells-of (start l .args .most) * 8 ≤ length (start l .args .rows .now))
 row-inside c =
@@ -42,7 +44,7 @@ body-length-requires c κs = search needs
 
 loop-holds : tie.Need-loop-holds Inv-loop μ-loop
 loop-holds c =
-    let d = c .before .before .before .before .before in
+    let d = c .before .before .before .before .before .before in
     record { rows-left = omega (arith, d .pre .0 .row-cells); places-left = omega (arith, d .pre .1); answer = refl }
 
 add-to : tie.Need-add-to Inv-loop μ-loop
@@ -51,54 +53,36 @@ add-to c = omega (arith, place-inside c)
 sub-left : tie.Need-sub-left Inv-loop μ-loop
 sub-left c = search needs
 
-sub-next-ok : tie.Need-sub-next-ok Inv-loop μ-loop
-sub-next-ok c = search needs
+sub-row : tie.Need-sub-row Inv-loop μ-loop
+sub-row c = search needs
 
-part-next-ok-start : tie.Need-part-next-ok-start Inv-loop μ-loop
-part-next-ok-start c = search needs
+part-row-start : tie.Need-part-row-start Inv-loop μ-loop
+part-row-start c = search needs
 
-part-next-ok-end : tie.Need-part-next-ok-end Inv-loop μ-loop
-part-next-ok-end c = search needs
+part-row-end : tie.Need-part-row-end Inv-loop μ-loop
+part-row-end c = search needs
 
-sub-next-ok-2 : tie.Need-sub-next-ok-2 Inv-loop μ-loop
-sub-next-ok-2 c = search needs
+sub-place : tie.Need-sub-place Inv-loop μ-loop
+sub-place c = search needs
 
-part-next-ok-start-2 : tie.Need-part-next-ok-start-2 Inv-loop μ-loop
-part-next-ok-start-2 c = search needs
+part-place-start : tie.Need-part-place-start Inv-loop μ-loop
+part-place-start c = search needs
 
-part-next-ok-end-2 : tie.Need-part-next-ok-end-2 Inv-loop μ-loop
-part-next-ok-end-2 c = omega (arith, place-inside (c .before))
+part-place-end : tie.Need-part-place-end Inv-loop μ-loop
+part-place-end c = omega (arith, place-inside (c .before))
 
 next-ok-requires : tie.Need-next-ok-requires Inv-loop μ-loop
 next-ok-requires c κs =
     let in-loop = c .before .before in
     let l = in-loop .before in
     let d = start l in (
-      record { row-cells = simp (length-take, length-drop) (omega (arith, row-inside in-loop)); last-cells = d .pre .0 .last-cells; few = d .pre .0 .few },
+      record { row-cells = simp (length-take, length-drop) (omega (arith, row-inside in-loop)); last-cells = d .pre .0 .last-cells; few = d .pre .0 .few; lent = d .pre .0 .lent },
       simp (length-take, length-drop) (omega (arith, place-inside in-loop, l .before .body-length .ensures)),
     )
 
-sub-is-finished : tie.Need-sub-is-finished Inv-loop μ-loop
-sub-is-finished c = search needs
-
-part-is-finished-start : tie.Need-part-is-finished-start Inv-loop μ-loop
-part-is-finished-start c = search needs
-
-part-is-finished-end : tie.Need-part-is-finished-end Inv-loop μ-loop
-part-is-finished-end c = search needs
-
-sub-is-finished-2 : tie.Need-sub-is-finished-2 Inv-loop μ-loop
-sub-is-finished-2 c = search needs
-
-part-is-finished-start-2 : tie.Need-part-is-finished-start-2 Inv-loop μ-loop
-part-is-finished-start-2 c = search needs
-
-part-is-finished-end-2 : tie.Need-part-is-finished-end-2 Inv-loop μ-loop
-part-is-finished-end-2 c = omega (arith, place-inside (c .before .before .before .before .before))
-
 is-finished-requires : tie.Need-is-finished-requires Inv-loop μ-loop
 is-finished-requires c κs =
-    let in-loop = c .before .before .before .before .before .before in (
+    let in-loop = c .before .before .before .before in (
       simp (length-take, length-drop) (omega (arith, row-inside in-loop)),
       simp (length-take, length-drop) (omega (arith, place-inside in-loop, in-loop .before .before .body-length .ensures)),
     )
@@ -108,7 +92,7 @@ both-requires c κs = search needs
 
 add-at : tie.Need-add-at Inv-loop μ-loop
 add-at c =
-    let in-loop = c .before .before .before .before .before .before .before .before in
+    let in-loop = c .before .before .before .before .before .before in
     omega (arith, row-inside in-loop, in-loop .before .before .before .row-cells .ensures)
 
 loop-less : tie.Need-loop-less Inv-loop μ-loop
@@ -116,7 +100,7 @@ loop-less c = search needs
 
 loop-again : tie.Need-loop-again Inv-loop μ-loop
 loop-again c =
-    let at-next = c .before .before .before .before .before in
+    let at-next = c .before .before .before in
     let in-loop = at-next .before .before .before in
     let l = in-loop .before in
     let a = start l .args in
@@ -125,8 +109,8 @@ loop-again c =
     let width = l .before .before .row-cells in
     let p = at-next .next-ok in
     let q = c .before .is-finished in
-    walk-on (a .most) (a .n) (a .count) (a .lasts .now) (a .rows .now) (a .places .now) (i .at) (i .from) (i .left) (i .finished) (i .inv) (in-loop .loop-test .taken) (size .result) (size .ensures)
-    (p .result) (p .ensures) (c .before .before .before .before .if1 .taken) (width .result * 8) (ap (λ (k : ℕ). k * 8) (width .ensures)) (q .result) (q .ensures) (c .both .result) (c .both .ensures)
+    walk-on (a .most) (a .n) (a .readers) (a .count) (cells (a .objects .now)) (cells (a .lasts .now)) (a .rows .now) (a .places .now) (i .at) (i .from) (i .left) (i .finished) (i .inv) (in-loop .loop-test .taken) (size .result) (size .ensures)
+    (p .result) (p .ensures) (c .before .before .if1 .taken) (width .result * 8) (ap (λ (k : ℕ). k * 8) (width .ensures)) (q .result) (q .ensures) (c .both .result) (c .both .ensures)
 
 returns : tie.Need-returns Inv-loop μ-loop
 returns c =
@@ -137,14 +121,14 @@ returns c =
     let i = l .loop in
     let size = l .before .body-length in
     let p = at-next .next-ok in
-    sym (walk-no (a .most) (a .n) (a .count) (a .lasts .now) (a .rows .now) (a .places .now) (i .at) (i .from) (i .left) (i .finished) (i .inv) (in-loop .loop-test .taken) (size .result) (size .ensures) (p .result) (p .ensures) (c .if1 .left))
+    sym (walk-no (a .most) (a .n) (a .readers) (a .count) (cells (a .objects .now)) (cells (a .lasts .now)) (a .rows .now) (a .places .now) (i .at) (i .from) (i .left) (i .finished) (i .inv) (in-loop .loop-test .taken) (size .result) (size .ensures) (p .result) (p .ensures) (c .if1 .left))
 
 returns-2 : tie.Need-returns-2 Inv-loop μ-loop
 returns-2 c =
     let l = c .before in
     let a = start l .args in
     let i = l .loop in
-    sym (walk-end (a .most) (a .n) (a .count) (a .lasts .now) (a .rows .now) (a .places .now) (i .at) (i .from) (i .left) (i .finished) (i .inv) (c .loop-test .left))
+    sym (walk-end (a .most) (a .n) (a .readers) (a .count) (cells (a .objects .now)) (cells (a .lasts .now)) (a .rows .now) (a .places .now) (i .at) (i .from) (i .left) (i .finished) (i .inv) (c .loop-test .left))
 
 pub each-ok-spec : {M : Type 1} → statement M
 each-ok-spec =
@@ -158,19 +142,13 @@ each-ok-spec =
     loop-holds
     add-to
     sub-left
-    sub-next-ok
-    part-next-ok-start
-    part-next-ok-end
-    sub-next-ok-2
-    part-next-ok-start-2
-    part-next-ok-end-2
+    sub-row
+    part-row-start
+    part-row-end
+    sub-place
+    part-place-start
+    part-place-end
     next-ok-requires
-    sub-is-finished
-    part-is-finished-start
-    part-is-finished-end
-    sub-is-finished-2
-    part-is-finished-start-2
-    part-is-finished-end-2
     is-finished-requires
     both-requires
     add-at

@@ -16,7 +16,7 @@ row-cells-requires c κs = search needs
 
 distinct-requires : tie.Need-distinct-requires
 distinct-requires c κs =
-    let d = c .before .before .before .before .before .before in
+    let d = c .before .before .before .before .before .before .before in
     let a = d .args in
     rw (c .row-cells .ensures) (search needs, omega (arith, mul-assoc (a .count) (cells-of (a .most)) 8, d .pre .0 .row-cells))
 
@@ -24,17 +24,17 @@ returns : tie.Need-returns
 returns c =
     let at-cells = c .before in
     let at-each = at-cells .before .before in
-    let a = at-each .before .before .before .before .args in
+    let a = at-each .before .before .before .before .before .args in
     let p = at-each .each-ok in
     let keys = rw (at-cells .row-cells .ensures) at (c .distinct .ensures) in
-    rows-keys (a .most) (a .n) (cells (a .lasts .now)) (a .count) (cells (a .rows .now)) (a .places .now) (p .result) (p .ensures) (at-cells .before .if1 .taken) (c .distinct .result) keys
+    rows-keys (a .most) (a .n) (a .readers) (cells (a .objects .now)) (cells (a .lasts .now)) (a .count) (cells (a .rows .now)) (a .places .now) (p .result) (p .ensures) (at-cells .before .if1 .taken) (c .distinct .result) keys
 
 returns-2 : tie.Need-returns-2
 returns-2 c =
     let at-each = c .before in
-    let a = at-each .before .before .before .before .args in
+    let a = at-each .before .before .before .before .before .args in
     let p = at-each .each-ok in
-    rows-each (a .most) (a .n) (cells (a .lasts .now)) (a .count) (cells (a .rows .now)) (a .places .now) (p .result) (p .ensures) (c .if1 .left)
+    rows-each (a .most) (a .n) (a .readers) (cells (a .objects .now)) (cells (a .lasts .now)) (a .count) (cells (a .rows .now)) (a .places .now) (p .result) (p .ensures) (c .if1 .left)
 
 pub rows-ok-spec : {M : Type 1} → statement M
 rows-ok-spec =

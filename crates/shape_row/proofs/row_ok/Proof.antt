@@ -23,31 +23,31 @@ small-requires : tie.Need-small-requires
 small-requires c κs = search needs
 
 run-ok-requires : tie.Need-run-ok-requires
-run-ok-requires c κs = let d = c .before .before .before .before .before .before .before .before .before .before in
+run-ok-requires c κs = let d = c .before .before .before .before .before .before .before .before .before .before .before in
     let a = d .args in
     let b = c .before .before .before .body-ok in
-    (search needs, omega (arith, c .small .ensures .0, body-most (a .most) (a .n) (a .place .now) (sym (b .ensures) ∙ c .before .before .if2 .taken)))
+    (search needs, omega (arith, c .small .ensures .0, body-most (a .most) (a .n) (a .place .now) (sym (b .ensures) ∙ c .before .before .if2 .taken)), d .pre .lent)
 
 returns : tie.Need-returns
-returns c = let a = c .before .before .before .before .before .before .before .before .before .before .before .args in
+returns c = let a = c .before .before .before .before .before .before .before .before .before .before .before .before .args in
     let k = c .before .before .before .before .before .before .before .get in
     let p = c .before .before .before .before .before .before .key-ok in
     let b = c .before .before .before .before .body-ok in
     let m = c .before .small in
-    row-run (a .most) (a .n) (cells (a .lasts .now)) (cells (a .row .now)) (a .place .now) (k .result) (k .ensures) (p .result) (p .ensures) (c .before .before .before .before .before .if1 .taken) (b .result) (b .ensures) (c .before .before .before .if2 .taken) (m .result) (m .ensures .0) (c .run-ok .result) (c .run-ok .ensures)
+    row-run (a .most) (a .n) (a .readers) (cells (a .objects .now)) (cells (a .lasts .now)) (cells (a .row .now)) (a .place .now) (k .result) (k .ensures) (p .result) (p .ensures) (c .before .before .before .before .before .if1 .taken) (b .result) (b .ensures) (c .before .before .before .if2 .taken) (m .result) (m .ensures .0) (c .run-ok .result) (c .run-ok .ensures)
 
 returns-2 : tie.Need-returns-2
-returns-2 c = let a = c .before .before .before .before .before .before .before .before .args in
+returns-2 c = let a = c .before .before .before .before .before .before .before .before .before .args in
     let k = c .before .before .before .before .get in
     let p = c .before .before .before .key-ok in
     let b = c .before .body-ok in
-    row-body (a .most) (a .n) (cells (a .lasts .now)) (cells (a .row .now)) (a .place .now) (k .result) (k .ensures) (p .result) (p .ensures) (c .before .before .if1 .taken) (b .result) (b .ensures) (c .if2 .left)
+    row-body (a .most) (a .n) (a .readers) (cells (a .objects .now)) (cells (a .lasts .now)) (cells (a .row .now)) (a .place .now) (k .result) (k .ensures) (p .result) (p .ensures) (c .before .before .if1 .taken) (b .result) (b .ensures) (c .if2 .left)
 
 returns-3 : tie.Need-returns-3
-returns-3 c = let a = c .before .before .before .before .before .before .args in
+returns-3 c = let a = c .before .before .before .before .before .before .before .args in
     let k = c .before .before .get in
     let p = c .before .key-ok in
-    row-key (a .most) (a .n) (cells (a .lasts .now)) (cells (a .row .now)) (a .place .now) (k .result) (k .ensures) (p .result) (p .ensures) (c .if1 .left)
+    row-key (a .most) (a .n) (a .readers) (cells (a .objects .now)) (cells (a .lasts .now)) (cells (a .row .now)) (a .place .now) (k .result) (k .ensures) (p .result) (p .ensures) (c .if1 .left)
 
 pub row-ok-spec : {M : Type 1} → statement M
 row-ok-spec =

@@ -1,44 +1,68 @@
 -- `shape_row::sets_ok` meets its contract: a law for each answer.
-use mathlib.Core.Path.{_≡_, ap, _∙_}
+use mathlib.Core.Path.{_≡_, sym, ap, _∙_}
 use mathlib.Core.List.{List}
 use Prim.Native.Nat.{ℕ, _+_, _*_, _-_}
 use lib.ListN.{drop}
 use borrow.Author.Needs.{needs}
 use Rattle.cells.specs.Cells.{cells}
 use Rattle.shape_names.specs.NameScan.{names-in}
-use Rattle.shape_row.specs.RowScan.{cells-of}
+use Rattle.shape_row.specs.RowScan.{cells-of, stores-in}
 use Rattle.shape_names.specs.NameTests.{rest-cells}
-use Rattle.shape_row.specs.RowTests.{zeros-rest, sets-reads, sets-writes, sets-behind}
+use Rattle.shape_row.specs.RowTests.{zeros-rest, sets-reads, sets-writes, sets-outside, sets-behind}
 use Rattle.shape_row.proofs.sets_ok.Statement.{statement}
 use Rattle.shape_row.proofs.sets_ok.Tie as tie
 
--- ---- waypoints: what was asked of the reads, and of the writes
+-- ---- waypoints: the entry, and what was asked of the reads, of the writes' names, and of their values
 
-reads : (c : tie.After-names-ok) → (let a = c .before .before .before .args in c .names-ok .result ≡ names-in (a .n) (a .reads) (drop 9 (cells (a .row .now))))
+abbrev start : tie.After-names-ok → tie.Start
+start c = c .before .before .before .before .before
+
+reads : (c : tie.After-names-ok) → (let a = start c .args in c .names-ok .result ≡ names-in (a .n) (a .reads) (drop 9 (cells (a .row .now))))
 reads c =
-    let a = c .before .before .before .args in
+    let a = start c .args in
     c .names-ok .ensures ∙ ap (λ (x : List ℕ). names-in (a .n) (a .reads) x) (rest-cells (a .row .now) 9)
 
-before-writes : tie.After-names-ok2 → tie.After-names-ok
-before-writes c = c .before .before .before
+abbrev before-writes : tie.After-names-ok2 → tie.After-names-ok
+before-writes c = c .before .before
 
-writes : (c : tie.After-names-ok2) → (let a = before-writes c .before .before .before .args in c .names-ok2 .result ≡ names-in (a .n) (a .both - a .reads) (drop (9 + a .reads * 2) (cells (a .row .now))))
-unfolding before-writes
+writes : (c : tie.After-names-ok2) → (let a = start (before-writes c) .args in c .names-ok2 .result ≡ names-in (a .n) (a .both - a .reads) (drop (9 + a .reads * 2) (cells (a .row .now))))
 writes c =
-    let a = before-writes c .before .before .before .args in
+    let a = start (before-writes c) .args in
     c .names-ok2 .ensures ∙ ap (λ (x : List ℕ). names-in (a .n) (a .both - a .reads) x) (rest-cells (a .row .now) (9 + a .reads * 2))
+
+abbrev before-stores : tie.After-stores-ok → tie.After-names-ok2
+before-stores c = c .before .before
+
+stores : (c : tie.After-stores-ok)
+    → (let a = start (before-writes (before-stores c)) .args in c .stores-ok .result ≡ stores-in (a .readers) (cells (a .objects .now)) (a .both - a .reads) (drop (9 + a .reads * 2) (cells (a .row .now))))
+stores c =
+    let a = start (before-writes (before-stores c)) .args in
+    c .stores-ok .ensures
+    ∙ ap (λ (x : List ℕ). stores-in (a .readers) (cells (a .objects .now)) (a .both - a .reads) x) (rest-cells (a .row .now) (9 + a .reads * 2))
 
 mul-first : tie.Need-mul-first
 mul-first c = search needs
 
-mul-writes : tie.Need-mul-writes
-mul-writes c = search needs
+mul-from : tie.Need-mul-from
+mul-from c = search needs
 
-add-writes : tie.Need-add-writes
-add-writes c = search needs
+add-from : tie.Need-add-from
+add-from c = search needs
 
-mul-writes-2 : tie.Need-mul-writes-2
-mul-writes-2 c = search needs
+mul-from-2 : tie.Need-mul-from-2
+mul-from-2 c = search needs
+
+sub-writes : tie.Need-sub-writes
+sub-writes c = search needs
+
+part-writes-start : tie.Need-part-writes-start
+part-writes-start c = search needs
+
+part-writes-end : tie.Need-part-writes-end
+part-writes-end c = search needs
+
+sub-stores : tie.Need-sub-stores
+sub-stores c = search needs
 
 mul-end : tie.Need-mul-end
 mul-end c = search needs
@@ -58,20 +82,14 @@ part-names-ok-end c = search needs
 names-ok-requires : tie.Need-names-ok-requires
 names-ok-requires c κs = search needs
 
-sub-names-ok-2 : tie.Need-sub-names-ok-2
-sub-names-ok-2 c = search needs
-
-part-names-ok-start-2 : tie.Need-part-names-ok-start-2
-part-names-ok-start-2 c = search needs
-
-part-names-ok-end-2 : tie.Need-part-names-ok-end-2
-part-names-ok-end-2 c = search needs
-
-sub-names-ok-3 : tie.Need-sub-names-ok-3
-sub-names-ok-3 c = search needs
-
 names-ok-requires-2 : tie.Need-names-ok-requires-2
 names-ok-requires-2 c κs = search needs
+
+stores-ok-requires : tie.Need-stores-ok-requires
+stores-ok-requires c κs =
+    let at-writes = c .before in
+    let d = start (before-writes at-writes) in
+    (search needs, record { n = d .args .n; lent = d .pre .3; names = sym (at-writes .names-ok2 .ensures) ∙ c .if2 .taken })
 
 row-cells-requires : tie.Need-row-cells-requires
 row-cells-requires c κs = search needs
@@ -80,52 +98,65 @@ cells-zero-requires : tie.Need-cells-zero-requires
 cells-zero-requires c κs = search needs
 
 returns : tie.Need-returns
-unfolding before-writes
 returns c =
     let at-cells = c .before in
-    let at-writes = at-cells .before .before in
+    let inside = at-cells .before in
+    let at-stores = inside .before in
+    let at-writes = before-stores at-stores in
     let at-reads = before-writes at-writes in
-    let d = at-reads .before .before .before in
+    let d = start at-reads in
     let a = d .args in
     let z = rw (at-cells .row-cells .ensures) at (c .cells-zero .ensures) in
-    sets-behind (a .n) (a .reads) (a .both) (cells (a .row .now)) (at-reads .names-ok .result) (reads at-reads) (at-writes .before .before .if1 .taken) (at-writes .names-ok2 .result) (writes at-writes) (at-cells .before .if2 .taken)
+    sets-behind (a .readers) (cells (a .objects .now)) (a .n) (a .reads) (a .both) (cells (a .row .now)) (at-reads .names-ok .result) (reads at-reads) (at-writes .before .if1 .taken)
+    (at-writes .names-ok2 .result) (writes at-writes) (at-stores .before .if2 .taken) (at-stores .stores-ok .result) (stores at-stores) (inside .if3 .taken)
     (c .cells-zero .result) (z ∙ zeros-rest (a .row .now) (cells-of (a .most)) (9 + a .both * 2) (d .pre .0))
 
 returns-2 : tie.Need-returns-2
-unfolding before-writes
 returns-2 c =
-    let at-writes = c .before in
+    let at-stores = c .before in
+    let at-writes = before-stores at-stores in
     let at-reads = before-writes at-writes in
-    let a = at-reads .before .before .before .args in
-    sets-writes (a .n) (a .reads) (a .both) (cells (a .row .now)) (at-reads .names-ok .result) (reads at-reads) (at-writes .before .before .if1 .taken) (at-writes .names-ok2 .result) (writes at-writes) (c .if2 .left)
+    let a = start at-reads .args in
+    sets-outside (a .readers) (cells (a .objects .now)) (a .n) (a .reads) (a .both) (cells (a .row .now)) (at-reads .names-ok .result) (reads at-reads) (at-writes .before .if1 .taken)
+    (at-writes .names-ok2 .result) (writes at-writes) (at-stores .before .if2 .taken) (at-stores .stores-ok .result) (stores at-stores) (c .if3 .left)
 
 returns-3 : tie.Need-returns-3
 returns-3 c =
+    let at-writes = c .before in
+    let at-reads = before-writes at-writes in
+    let a = start at-reads .args in
+    sets-writes (a .readers) (cells (a .objects .now)) (a .n) (a .reads) (a .both) (cells (a .row .now)) (at-reads .names-ok .result) (reads at-reads) (at-writes .before .if1 .taken)
+    (at-writes .names-ok2 .result) (writes at-writes) (c .if2 .left)
+
+returns-4 : tie.Need-returns-4
+returns-4 c =
     let at-reads = c .before in
-    let a = at-reads .before .before .before .args in
-    sets-reads (a .n) (a .reads) (a .both) (cells (a .row .now)) (at-reads .names-ok .result) (reads at-reads) (c .if1 .left)
+    let a = start at-reads .args in
+    sets-reads (a .readers) (cells (a .objects .now)) (a .n) (a .reads) (a .both) (cells (a .row .now)) (at-reads .names-ok .result) (reads at-reads) (c .if1 .left)
 
 pub sets-ok-spec : {M : Type 1} → statement M
 sets-ok-spec =
     tie.close
     (tie.spec
     mul-first
-    mul-writes
-    add-writes
-    mul-writes-2
+    mul-from
+    add-from
+    mul-from-2
+    sub-writes
+    part-writes-start
+    part-writes-end
+    sub-stores
     mul-end
     add-end
     sub-names-ok
     part-names-ok-start
     part-names-ok-end
     names-ok-requires
-    sub-names-ok-2
-    part-names-ok-start-2
-    part-names-ok-end-2
-    sub-names-ok-3
     names-ok-requires-2
+    stores-ok-requires
     row-cells-requires
     cells-zero-requires
     returns
     returns-2
-    returns-3)
+    returns-3
+    returns-4)

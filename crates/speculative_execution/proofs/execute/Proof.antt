@@ -63,12 +63,12 @@ mul-table : tie.Need-mul-table
 mul-table c = omega (arith, c .before .committed-rows .ensures .few)
 
 array-borrow-prefix-table : tie.Need-array-borrow-prefix-table
-array-borrow-prefix-table c = fits (c .before)
+array-borrow-prefix-table c = omega (arith, fits (c .before))
 
 slice-aggregate-execute-pending : tie.Need-slice-aggregate-execute-pending
 slice-aggregate-execute-pending c =
     let v = c .before .before in
-    sym (length-take-le (v .committed-rows .result * 3) (v .committed-rows .last .1 .1 .0) (fits v))
+    sym (length-take-le _ (v .committed-rows .last .1 .1 .0) (omega (arith, fits v)))
 
 execute-pending-requires : tie.Need-execute-pending-requires
 execute-pending-requires c κs =
