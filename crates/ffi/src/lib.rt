@@ -55,19 +55,21 @@ pub extern "C" fn jobstore_bodies_length() -> u32
     layout::bodies_length(replica::STANDARD) as u32
 }
 
-// Open: n start values and a start stamp.
+// Open: n start values, a lower and an upper bound for each, and a start stamp.
 #[no_mangle]
 pub extern "C" fn jobstore_open(
     records: &mut [u8],
     bodies: &mut [u8],
     n: u32,
     values: &[i64],
+    lower: &[i64],
+    upper: &[i64],
     stamp: u32,
 ) -> u32
-    ensures { λ r. ⌜ Exported (opening (by-values n (now (values .entry)) stamp)) (now (records .entry), now (bodies .entry))
-        (lone r) (now (records .exit), now (bodies .exit)) ⌝ }
+    ensures { λ r. ⌜ Exported (opening (by-values n (now (values .entry)) (now (lower .entry)) (now (upper .entry)) stamp))
+        (now (records .entry), now (bodies .entry)) (lone r) (now (records .exit), now (bodies .exit)) ⌝ }
 {
-    ffi_numbers::reply_number(replica::open(records, bodies, n, values, stamp))
+    ffi_numbers::reply_number(replica::open(records, bodies, n, values, lower, upper, stamp))
 }
 
 // Early delivery of a key and its body.

@@ -1,8 +1,9 @@
-// A quick test of one object's versions beside the open readers, which stand sorted in d as `shape_readers` has them. It is sound and no more: what
-// passes meets the shape check's rules. `alone`, for no open reader, decides.
+// A quick test of one object's versions beside the open readers, which stand sorted in d as `shape_readers` has them, and beside the object's bounds. It
+// is sound and no more: what passes meets the shape check's rules. `alone`, for no open reader, and `bounds_ok`, for the bounds, decide.
 //
 // Why it is quick: the number of versions is a literal at each call, so that the versions and the cells behind them are straight code; the oldest
-// version is held by the earliest open reader or by none; and in between an index goes down the sorted readers as the versions get older.
+// version is held by the earliest open reader or by none; in between an index goes down the sorted readers as the versions get older; and that a value
+// is inside the bounds is one comparison of differences modulo 2^64.
 ghost use mathlib.Core.Path.{_≡_};
 ghost use mathlib.Core.Bool.{true, _&&_};
 ghost use mathlib.Core.List.{List, []};
@@ -90,15 +91,15 @@ fn single(block: &[u8], readers: usize, low: u64) -> bool
     false
 }
 
-// Is the lower bound not above the upper one? Both as bits: what is compared are the signed numbers.
+// Is the lower bound not above the upper one? They are bits; what is compared are the signed numbers. Once an object, before `all_inside`.
 fn in_order(lower: u64, upper: u64) -> bool
     ensures { λ r. ⌜ r ≡ ordered (bounds-of lower upper) ⌝ }
 {
     cells::signed(lower) <= cells::signed(upper)
 }
 
-// Is the value of each of the first count versions inside the bounds? One test a version: its difference to lower, modulo 2^64, is not above that of
-// upper. Bounds as far apart as 64 bits allow are not asked. Called with a literal count, the loop becomes straight code.
+// Is the value of each of the first count versions inside the bounds, which are in order? One test a version: its difference to lower, modulo 2^64, is
+// not above that of upper, the span. Nothing is outside the widest bounds: they are not asked. Called with a literal count, it is straight code.
 fn all_inside(block: &[u8], count: usize, lower: u64, upper: u64) -> bool
     requires versions { ⌜ (1 + 2 * count) * 8 ≤ length (now block) ⌝ }
     requires order { ⌜ ordered (bounds-of lower upper) ≡ true ⌝ }
@@ -108,19 +109,19 @@ fn all_inside(block: &[u8], count: usize, lower: u64, upper: u64) -> bool
     if span == u64::MAX {
         return true;
     }
-    let mut k = 0;
-    while k < count {
-        let v = cells::get(block, 2 + 2 * k);
+    let mut i = 0;
+    while i < count {
+        let v = cells::get(block, 2 + 2 * i);
         if span < std::num::wrapping_sub_u64(v, lower) {
             return false;
         }
-        k += 1;
+        i += 1;
     }
     true
 }
 
-// The test on one object's block beside its bounds, which are in order, by the number of versions. Most objects have one: it is asked before the match.
-// More than eight are left to `shape_versions`.
+// The test on one object's block beside its bounds, which are in order, by its number of versions: their values, then their stamps. Most objects have
+// one version: it is asked before the match. More than eight are left to `shape_versions`.
 fn block_quick(
     block: &[u8],
     d: &[u64; 17],
@@ -156,7 +157,8 @@ fn block_quick(
     }
 }
 
-// The test on one object. d and q are those of `shape_readers::sort_open`, low is the smallest open reader's cell, or timestamp + 1.
+// The test on one object. d and q are those of `shape_readers::sort_open`, low is the smallest open reader's cell, or timestamp + 1. Bounds that are
+// not in order are refused first, so that each arm asks its values by differences.
 pub fn object_quick(
     object: &[u8],
     d: &[u64; 17],
@@ -179,8 +181,8 @@ pub fn object_quick(
     false
 }
 
-// The bounds' rules on one object of any number of versions that its block has room for: its lower bound is not above its upper one, and every version
-// is inside. This one decides.
+// The bounds' rules on one object, whatever its number of versions, as long as its block has room for them: its lower bound is not above its upper
+// one, and every version is inside. This one decides.
 pub fn bounds_ok(object: &[u8], readers: usize) -> bool
     requires size { ⌜ length (now object) ≡ object-cells readers * 8 ⌝ }
     requires versions { ⌜ getD (block-of readers (cells (now object))) 0 0 ≤ readers + 1 ⌝ }
@@ -210,7 +212,8 @@ fn block_alone(block: &[u8], readers: usize, timestamp: u64) -> bool
     false
 }
 
-// The shape check's rules on one object where no reader is open: its one version, and that one inside the bounds. This one decides.
+// The shape check's rules on one object where no reader is open: one version by `block_alone`, so that a literal count is right, and that one inside
+// the bounds. This one decides.
 pub fn alone(object: &[u8], readers: usize, timestamp: u64) -> bool
     requires { ⌜ length (now object) ≡ object-cells readers * 8 ⌝ }
     ensures { λ r. ⌜ r ≡ object-ok readers timestamp [] (cells (now (object .entry))) ⌝ }

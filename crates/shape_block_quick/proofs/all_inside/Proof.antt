@@ -1,6 +1,6 @@
--- `shape_block_quick::all_inside` meets its contract. Invariant: the answer is that of the versions from the k-th on. The measure is their number.
-use mathlib.Core.Path.{_≡_, refl, sym, ap, _∙_}
-use Prim.Native.Nat.{ℕ, _+_, _*_, _≤_, _-_}
+-- `shape_block_quick::all_inside` meets its contract. Invariant: the answer is that of the versions from the i-th on. The measure is their number.
+use mathlib.Core.Path.{_≡_, sym, ap, _∙_}
+use Prim.Native.Nat.{ℕ, _≤_, _-_}
 use native.Mathlib.Omega.{arith}
 use borrow.Author.Needs.{needs}
 use lib.ListN.{drop}
@@ -12,10 +12,10 @@ use Rattle.shape_block_quick.proofs.all_inside.Statement.{statement}
 use Rattle.shape_block_quick.proofs.all_inside.Tie as tie
 
 abbrev Inv-loop : tie.InvT-loop
-Inv-loop block count lower upper span k₀ k = (k ≤ count) × (versions-inside (bounds-of lower upper) (versions-in count (drop 1 (cells block))) ≡ rest-inside lower upper count k (cells block))
+Inv-loop block count lower upper span i₀ i = (i ≤ count) × (versions-inside (bounds-of lower upper) (versions-in count (drop 1 (cells block))) ≡ rest-inside lower upper count i (cells block))
 
 abbrev μ-loop : tie.MeasureT-loop
-μ-loop block count lower upper span k₀ k = count - k
+μ-loop block count lower upper span i₀ i = count - i
 
 -- the difference of the bounds is what the laws ask
 spanned : (c : tie.After-wrapping-sub-u64 Inv-loop μ-loop) → (let a = c .before .before .args in Spanned (a .lower) (a .upper) (c .wrapping-sub-u64 .result))
@@ -55,14 +55,14 @@ returns-2 c =
     let at-loop = at-get .before .before in
     let at-span = at-loop .before .before in
     let a = at-span .before .before .args in
-    let i = at-loop .loop in
+    let l = at-loop .loop in
     let v = at-get .get in
     let d = c .before .wrapping-sub-u642 in
-    let no = inside-no (a .lower) (a .upper) (at-span .wrapping-sub-u64 .result) (spanned at-span) (a .count) (i .k) (cells (a .block .now)) (v .result) (d .result) in
-    sym (i .inv .1 ∙ no (v .ensures) (search needs) (omega arith) (omega arith) (d .ensures) (search needs))
+    let no = inside-no (a .lower) (a .upper) (at-span .wrapping-sub-u64 .result) (spanned at-span) (a .count) (l .i) (cells (a .block .now)) (v .result) (d .result) in
+    sym (l .inv .1 ∙ no (v .ensures) (search needs) (omega arith) (omega arith) (d .ensures) (search needs))
 
-add-k : tie.Need-add-k Inv-loop μ-loop
-add-k c = search needs
+add-i : tie.Need-add-i Inv-loop μ-loop
+add-i c = search needs
 
 loop-less : tie.Need-loop-less Inv-loop μ-loop
 loop-less c = search needs
@@ -73,17 +73,17 @@ loop-again c =
     let at-loop = at-get .before .before in
     let at-span = at-loop .before .before in
     let a = at-span .before .before .args in
-    let i = at-loop .loop in
+    let l = at-loop .loop in
     let v = at-get .get in
     let d = c .before .wrapping-sub-u642 in
-    let next = inside-next (a .lower) (a .upper) (at-span .wrapping-sub-u64 .result) (spanned at-span) (a .count) (i .k) (cells (a .block .now)) (v .result) (d .result) in
-    (search needs, i .inv .1 ∙ next (v .ensures) (search needs) (omega arith) (omega arith) (d .ensures) (search needs))
+    let next = inside-next (a .lower) (a .upper) (at-span .wrapping-sub-u64 .result) (spanned at-span) (a .count) (l .i) (cells (a .block .now)) (v .result) (d .result) in
+    (search needs, l .inv .1 ∙ next (v .ensures) (search needs) (omega arith) (omega arith) (d .ensures) (search needs))
 
 returns-3 : tie.Need-returns-3 Inv-loop μ-loop
 returns-3 c =
     let a = c .before .before .before .before .before .args in
-    let i = c .before .loop in
-    sym (i .inv .1 ∙ inside-end (a .lower) (a .upper) (a .count) (i .k) (cells (a .block .now)) (omega arith))
+    let l = c .before .loop in
+    sym (l .inv .1 ∙ inside-end (a .lower) (a .upper) (a .count) (l .i) (cells (a .block .now)) (omega arith))
 
 pub all-inside-spec : {M : Type 1} → statement M
 all-inside-spec =
@@ -99,7 +99,7 @@ all-inside-spec =
     get-requires
     wrapping-sub-u64-requires-2
     returns-2
-    add-k
+    add-i
     loop-less
     loop-again
     returns-3)
