@@ -1,5 +1,6 @@
 // The arguments of a command, read from a line from an index on.
 use crate::faults::Fault;
+use crate::faults::List;
 use crate::faults::Name;
 use text::numbers;
 use text::numbers::Integer;
@@ -22,9 +23,12 @@ pub enum Octet {
     Wrong(Fault),
 }
 
+// How a list of signed numbers ended, and how many it has.
 pub enum ValueList {
-    // so many
-    Count(usize),
+    // at the line's end
+    Ended(usize),
+    // at the next list's name: the index behind that word
+    Word(usize, usize),
     Wrong(Fault),
 }
 
@@ -95,9 +99,18 @@ pub fn last_byte(line: &[u8], at: usize) -> Octet {
     }
 }
 
-// The signed numbers to the line's end, put at the start of out; those that do not fit are counted alone.
+// Does a word end a list? The next list's name does; the last list has none behind it.
+fn ends(list: List, word: &[u8]) -> bool {
+    match list {
+        List::Values => words::place(b"lower", word) == 0,
+        List::Lower => words::place(b"upper", word) == 0,
+        List::Upper => false,
+    }
+}
+
+// The signed numbers of a list up to the next list's name or to the line's end, put at the start of out; those that do not fit are counted alone.
 // In the loop `next` is the index behind the first `count` of them.
-pub fn values(line: &[u8], at: usize, out: &mut [i64]) -> ValueList {
+pub fn values(line: &[u8], at: usize, list: List, out: &mut [i64]) -> ValueList {
     let mut next = at;
     let mut count = 0;
     while next < line.len() {
@@ -105,10 +118,13 @@ pub fn values(line: &[u8], at: usize, out: &mut [i64]) -> ValueList {
         let from = w.from;
         let to = w.to;
         if from == to {
-            return ValueList::Count(count);
+            return ValueList::Ended(count);
+        }
+        if ends(list, &line[from..to]) {
+            return ValueList::Word(count, to);
         }
         let Integer::Value(v) = numbers::signed(&line[from..to]) else {
-            return ValueList::Wrong(Fault::Value(count as u64 + 1));
+            return ValueList::Wrong(Fault::Value(list, count as u64 + 1));
         };
         if count < out.len() {
             out[count] = v;
@@ -116,5 +132,5 @@ pub fn values(line: &[u8], at: usize, out: &mut [i64]) -> ValueList {
         next = to;
         count += 1;
     }
-    ValueList::Count(count)
+    ValueList::Ended(count)
 }

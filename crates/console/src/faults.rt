@@ -15,13 +15,22 @@ pub enum Name {
     At,
 }
 
+// The lists of signed numbers that an opening takes.
+pub enum List {
+    Values,
+    Lower,
+    Upper,
+}
+
 pub enum Fault {
     LongLine,
     UnknownCommand,
     TooManyWords,
     Number(Name),
-    // the value's place among the values, from 1
-    Value(u64),
+    // the number's place in its list, from 1
+    Value(List, u64),
+    // lower bounds and no upper ones
+    NoUpper,
     Body,
     Area,
     Byte,
@@ -49,9 +58,18 @@ fn put_number_fault(out: &mut [u8], at: usize, name: Name) -> usize {
     buffer::put(out, behind, b": not a number from 0 to 4294967295")
 }
 
-// What is wrong with a start value, by its place among them.
-fn put_value_fault(out: &mut [u8], at: usize, place: u64) -> usize {
-    let named = buffer::put(out, at, b"value ");
+// What a number of a list is called; its place follows.
+fn put_list(out: &mut [u8], at: usize, list: List) -> usize {
+    match list {
+        List::Values => buffer::put(out, at, b"value "),
+        List::Lower => buffer::put(out, at, b"lower "),
+        List::Upper => buffer::put(out, at, b"upper "),
+    }
+}
+
+// What is wrong with a start value or a bound, by its place in its list.
+fn put_value_fault(out: &mut [u8], at: usize, list: List, place: u64) -> usize {
+    let named = put_list(out, at, list);
     let behind = numerals::put_unsigned(out, named, place);
     buffer::put(
         out,
@@ -67,7 +85,8 @@ fn put_fault(out: &mut [u8], at: usize, fault: Fault) -> usize {
         Fault::UnknownCommand => buffer::put(out, at, b"unknown command"),
         Fault::TooManyWords => buffer::put(out, at, b"too many words"),
         Fault::Number(name) => put_number_fault(out, at, name),
-        Fault::Value(place) => put_value_fault(out, at, place),
+        Fault::Value(list, place) => put_value_fault(out, at, list, place),
+        Fault::NoUpper => buffer::put(out, at, b"upper: missing"),
         Fault::Body => buffer::put(out, at, b"body: not pairs of hexadecimal digits, nor -"),
         Fault::Area => buffer::put(out, at, b"area: neither record nor body"),
         Fault::Byte => buffer::put(out, at, b"byte: not a number from 0 to 255"),

@@ -1,10 +1,11 @@
--- Entries, Bounds, Run: a run of a body on a table. ReadAgreement, RunShape, Ended: its laws. Arrays, TableLaws: a run, and a table beside it, as the code
+-- Entries, Bounds, Run: a run of a body on a table. ReadAgreement, RunShape, BoundsLaws, Ended: its laws. Arrays, TableLaws: a run, and a table beside it, as the code
 -- has them. RunExamples: computed.
 pub mod Entries
 pub mod Bounds
 pub mod Run
 pub mod ReadAgreement
 pub mod RunShape
+pub mod BoundsLaws
 pub mod Ended
 pub mod Arrays
 pub mod TableLaws

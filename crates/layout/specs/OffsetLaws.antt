@@ -101,9 +101,6 @@ body-spans l i q h = omega (arith, split-rows q i (body-width l) h)
 one-of : (i w : ℕ) → (i + 1 - i) * w ≡ w
 one-of i w = let e : i + 1 - i ≡ 1 = omega arith in ap (λ (k : ℕ). k * w) e ∙ one-mul w
 
-pub block-span : (l : Limits) (i a e : ℕ) → a ≡ object-at l i → e ≡ object-at l (i + 1) → e * 8 - a * 8 ≡ object-width l * 8
-block-span l i a e ea ee = rw (ea, ee) (object-span l i (i + 1) (omega arith) ∙ one-of i (object-width l * 8))
-
 pub one-row-span : (l : Limits) (i a e : ℕ) → a ≡ row-at l i → e ≡ row-at l (i + 1) → e * 8 - a * 8 ≡ row-width l * 8
 one-row-span l i a e ea ee = rw (ea, ee) (row-span l i (i + 1) (omega arith) ∙ one-of i (row-width l * 8))
 

@@ -97,14 +97,7 @@ pub fn fill(
     let n = values.len();
     let first = layout::object_at(l, 0) * 8;
     let end = layout::object_at(l, n) * 8;
-    put_objects(
-        &mut records[first..end],
-        l.readers,
-        values,
-        lower,
-        upper,
-        t,
-    );
+    put_objects(&mut records[first..end], l.readers, values, lower, upper, t);
     cells::put(records, layout::size_at(l), n as u64);
     cells::put(records, 0, t);
 }

@@ -43,7 +43,16 @@ pub fn open(
     ensures { λ r. ⌜ Met standard (opening (by-values n (now (values .entry)) (now (lower .entry)) (now (upper .entry)) timestamp))
         (now (records .entry), now (bodies .entry)) (reply r) (now (records .exit), now (bodies .exit)) ⌝ }
 {
-    replica_calls::open(records, bodies, STANDARD, n, values, lower, upper, timestamp)
+    replica_calls::open(
+        records,
+        bodies,
+        STANDARD,
+        n,
+        values,
+        lower,
+        upper,
+        timestamp,
+    )
 }
 
 // Early delivery: the transaction becomes the last of the pending ones.

@@ -6,7 +6,8 @@ use Prim.Native.Nat.{ℕ, _*_, _≤_}
 use lib.ListN.{length}
 use Rattle.operation.specs.Columns.{most-operations}
 use Rattle.shape_names.specs.NameScan.{names-in}
-use Rattle.shape_row.specs.RowScan.{cells-of, place-of, object-cells}
+use Rattle.versions.specs.Block.{object-cells}
+use Rattle.shape_row.specs.RowScan.{cells-of, place-of}
 
 -- the objects, n of them, and so few readers that an object's cells are no overflow
 pub record Objects (n readers : ℕ) (objects : List ℕ) : Type 0 where

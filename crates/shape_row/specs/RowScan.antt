@@ -11,10 +11,10 @@ use mir.Val.{toZ}
 use Rattle.cells.specs.Zeros.{zeros}
 use Rattle.operation.specs.Body.{body-length, size, is-well-formed}
 use Rattle.execution.specs.Bounds.{Bounds, inside}
-use Rattle.model.specs.declared.Limits.{Limits}
 use Rattle.model.specs.Calls.{clients}
 use Rattle.shape_names.specs.NameScan.{names-in}
-use Rattle.layout.specs.Offsets.{object-width, lower-at, counter-at, outcome-at, reads-at, entries-at, entry-at}
+use Rattle.versions.specs.Block.{width, object-cells}
+use Rattle.layout.specs.Offsets.{counter-at, outcome-at, reads-at, entries-at, entry-at}
 
 -- cells of a row, bytes of a place
 abbrev pub cells-of : ℕ → ℕ
@@ -23,16 +23,9 @@ cells-of most = 9 + 2 * most
 abbrev pub place-of : ℕ → ℕ
 place-of most = body-length most
 
--- limits of so many readers: on them alone it depends how many cells an object has, and where its bounds lie
-abbrev pub with-readers : ℕ → Limits
-with-readers readers = record { objects = 0; pending = 0; readers = readers; operations = 0 }
-
-abbrev pub object-cells : ℕ → ℕ
-object-cells readers = object-width (with-readers readers)
-
 -- the cell of an object's lower bound; the upper one's is the next
 abbrev pub bound-cell : ℕ → ℕ → ℕ
-bound-cell readers o = o * object-cells readers + lower-at (with-readers readers)
+bound-cell readers o = o * object-cells readers + width readers
 
 abbrev pub bounds-from : List ℕ → ℕ → Bounds
 bounds-from os i = record { lower = toZ w64 (getD os i 0); upper = toZ w64 (getD os (i + 1) 0) }

@@ -24,7 +24,8 @@ use Rattle.model.specs.Calls.{clients}
 use Rattle.layout.specs.Offsets.{entry-at}
 use Rattle.layout.specs.Rows.{chunks}
 use Rattle.shape_names.specs.NameScan.{absent, names-in}
-use Rattle.shape_row.specs.RowScan.{object-cells, bound-cell, bounds-from, counter-in, outcome-in, reads-in, entries-in, key-in, body-in, stores-in, sets-in, begun, begun-in, run-in, row-in}
+use Rattle.versions.specs.Block.{object-cells}
+use Rattle.shape_row.specs.RowScan.{bound-cell, bounds-from, counter-in, outcome-in, reads-in, entries-in, key-in, body-in, stores-in, sets-in, begun, begun-in, run-in, row-in}
 use Rattle.shape_row.specs.LentRow.{Named}
 
 -- ---- leaves, test by test

@@ -1,6 +1,5 @@
 // The shape check of one row with the place of its body (document 01, "Shape check"): key, body, and the run's counter, outcome, read set and
 // write set, whose values lie inside their objects' bounds (document 02, S-1). It looks at the parts lent to it and knows nothing of the areas' layout.
-use model::Limits;
 ghost use mathlib.Core.Path.{_≡_};
 ghost use mathlib.Core.Bool.{_||_};
 ghost use Prim.Native.Nat.{_+_, _*_, _^_, _≤_, _<_};
@@ -62,14 +61,8 @@ fn stores_ok(entries: &[u8], objects: &[u8], readers: usize, count: usize) -> bo
     requires { ⌜ (count * 16 ≤ length (now entries)) × Named readers count (cells (now entries)) (now objects) ⌝ }
     ensures { λ r. ⌜ r ≡ stores-in readers (cells (now (objects .entry))) count (cells (now (entries .entry))) ⌝ }
 {
-    let l = Limits {
-        objects: 0,
-        pending: 0,
-        readers: readers,
-        operations: 0,
-    };
-    let width = layout::object_width(l);
-    let bounds = layout::bounds_at(l);
+    let width = versions::object_cells(readers);
+    let bounds = versions::width(readers);
     let mut at = 0;
     let mut left = count;
     while 0 < left {

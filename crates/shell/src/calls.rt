@@ -5,6 +5,7 @@ use console::arguments::Pair;
 use console::arguments::Single;
 use console::arguments::ValueList;
 use console::faults::Fault;
+use console::faults::List;
 use console::faults::Name;
 use console::output;
 use model::Delivery;
@@ -28,28 +29,71 @@ fn first<'a>(values: &'a [i64], n: usize) -> &'a [i64]
     }
 }
 
-// Opens with the values that the line has, put into a lent array.
+// How many start values, lower bounds and upper bounds an opening's line has.
+enum Counts {
+    Are(usize, usize, usize),
+    Wrong(Fault),
+}
+
+// The bounds behind the word `lower`; one list of them without the other is a wrong line, since the library takes both.
+fn bounds(line: &[u8], at: usize, count: usize, lower: &mut [i64], upper: &mut [i64]) -> Counts {
+    match arguments::values(line, at, List::Lower, lower) {
+        ValueList::Word(l, behind) => match arguments::values(line, behind, List::Upper, upper) {
+            ValueList::Ended(u) => Counts::Are(count, l, u),
+            // nothing but the line's end ends the last list
+            ValueList::Word(u, _) => Counts::Are(count, l, u),
+            ValueList::Wrong(fault) => Counts::Wrong(fault),
+        },
+        ValueList::Ended(_) => Counts::Wrong(Fault::NoUpper),
+        ValueList::Wrong(fault) => Counts::Wrong(fault),
+    }
+}
+
+// The lists of an opening of n objects. Without the word `lower` each object takes the bounds that the arrays hold already, which are the widest.
+fn lists(
+    line: &[u8],
+    at: usize,
+    n: usize,
+    values: &mut [i64],
+    lower: &mut [i64],
+    upper: &mut [i64],
+) -> Counts {
+    match arguments::values(line, at, List::Values, values) {
+        ValueList::Ended(count) => Counts::Are(count, n, n),
+        ValueList::Word(count, behind) => bounds(line, behind, count, lower, upper),
+        ValueList::Wrong(fault) => Counts::Wrong(fault),
+    }
+}
+
+// Opens with the lists that the line has, put into lent arrays; what they say together is the library's to judge.
 fn open_into(
     records: &mut [u8],
     bodies: &mut [u8],
     line: &[u8],
     at: usize,
     values: &mut [i64],
+    lower: &mut [i64],
+    upper: &mut [i64],
     out: &mut [u8],
 ) -> Answer {
     match arguments::two_numbers(line, at, Name::Objects, Name::Stamp) {
-        Pair::Are(n, stamp, behind) => match arguments::values(line, behind, values) {
-            ValueList::Count(count) => {
-                let r: Reply = replica::open(records, bodies, n, first(values, count), stamp);
-                Answer::Line(output::put_reply(out, r))
+        Pair::Are(n, stamp, behind) => {
+            match lists(line, behind, n as usize, values, lower, upper) {
+                Counts::Are(v, l, u) => {
+                    let taken = first(values, v);
+                    let low = first(lower, l);
+                    let high = first(upper, u);
+                    let r: Reply = replica::open(records, bodies, n, taken, low, high, stamp);
+                    Answer::Line(output::put_reply(out, r))
+                }
+                Counts::Wrong(fault) => Answer::Wrong(fault),
             }
-            ValueList::Wrong(fault) => Answer::Wrong(fault),
-        },
+        }
         Pair::Wrong(fault) => Answer::Wrong(fault),
     }
 }
 
-// open N STAMP V0 V1 ..
+// open N STAMP V0 V1 .. [lower L0 L1 .. upper U0 U1 ..]
 pub fn open(
     records: &mut [u8],
     bodies: &mut [u8],
@@ -59,7 +103,19 @@ pub fn open(
 ) -> Answer {
     // more than any replica takes: what does not fit is counted, and the library refuses
     let mut values: [i64; 2048] = [0; 2048];
-    open_into(records, bodies, line, at, &mut values, out)
+    // the widest bounds, for a line that has none
+    let mut lower: [i64; 2048] = [i64::MIN; 2048];
+    let mut upper: [i64; 2048] = [i64::MAX; 2048];
+    open_into(
+        records,
+        bodies,
+        line,
+        at,
+        &mut values,
+        &mut lower,
+        &mut upper,
+        out,
+    )
 }
 
 // The bytes of a body: pairs of digits, or - for none.

@@ -7,7 +7,7 @@ mod lines;
 
 // Both areas of one replica, empty, and the lines of standard input.
 fn main() {
-    let mut records = [0u8; 28112];
+    let mut records = [0u8; 30160];
     let mut bodies = [0u8; 5664];
     // the longest line with its newline
     let mut buffer = [0u8; 131072];

@@ -108,10 +108,13 @@ loop-again c =
     let v : ValueFits (getD (a .values .now) (i .i) (pos 0)) = record { sfits = at-value .before .put-signed-arg2 .given } in
     let lo : ValueFits (getD (a .lower .now) (i .i) (pos 0)) = record { sfits = at-bounds .before .put-signed-arg4 .given } in
     let hi : ValueFits (getD (a .upper .now) (i .i) (pos 0)) = record { sfits = c .before .before .before .put-signed-arg6 .given } in
-    let pre = w .before .before .pre in
-    (search needs, search needs, filling-next (a .readers) (a .timestamp) (a .values .now) (a .lower .now) (a .upper .now) (i .objects) (i .at) (i .i) (i .inv .2) (t .loop-test .taken)
-    (p₁ .last .0) (p₂ .last .0) (p₃ .last .0) (p₄ .last .0) (p₅ .last .0) _ _ _ _ (omega (arith, w .width .ensures)) (p₁ .ensures) (p₂ .ensures) (p₃ .ensures) (p₄ .ensures) (p₅ .ensures)
-    (ap (ofZ w64) (toZ-ofZ v)) (ap (ofZ w64) (toZ-ofZ lo)) (ap (ofZ w64) (toZ-ofZ hi)) (omega (arith, pre .lowers, t .loop-test .taken)) (omega (arith, pre .uppers, t .loop-test .taken)) v lo hi)
+    let pre = w .before .before .pre in (
+      search needs,
+      search needs,
+      filling-next (a .readers) (a .timestamp) (a .values .now) (a .lower .now) (a .upper .now) (i .objects) (i .at) (i .i) (i .inv .2) (t .loop-test .taken)
+          (p₁ .last .0) (p₂ .last .0) (p₃ .last .0) (p₄ .last .0) (p₅ .last .0) _ _ _ _ (omega (arith, w .width .ensures)) (p₁ .ensures) (p₂ .ensures) (p₃ .ensures) (p₄ .ensures) (p₅ .ensures)
+          (ap (ofZ w64) (toZ-ofZ v)) (ap (ofZ w64) (toZ-ofZ lo)) (ap (ofZ w64) (toZ-ofZ hi)) (omega (arith, pre .lowers, t .loop-test .taken)) (omega (arith, pre .uppers, t .loop-test .taken)) v lo hi,
+    )
 
 same-length : tie.Need-same-length Inv-loop μ-loop
 same-length c = search needs

@@ -76,9 +76,11 @@ loop-again c =
     let a = l .before .args in
     let p = l .before .pre in
     let v : mag (getD (a .values .now) (l .loop .i) (pos 0)) < 2 ^ 63 = at-if1 .before .before .v .given in
-    let hi : mag (getD (a .upper .now) (l .loop .i) (pos 0)) < 2 ^ 63 = c .before .if22 .given in
-    (omega arith, λ lows highs. l .loop .inv .1 lows highs ∙ starts-next (a .values .now) (a .lower .now) (a .upper .now) lows highs (l .loop .i) (at-if1 .before .before .before .loop-test .taken)
-    (rw (read-back v, read-back (at-if1 .before .if12 .given)) at (at-if1 .if1 .left)) (rw (read-back hi, read-back v) at (c .if2 .left)))
+    let hi : mag (getD (a .upper .now) (l .loop .i) (pos 0)) < 2 ^ 63 = c .before .if22 .given in (
+      omega arith,
+      λ lows highs. l .loop .inv .1 lows highs ∙ starts-next (a .values .now) (a .lower .now) (a .upper .now) lows highs (l .loop .i) (at-if1 .before .before .before .loop-test .taken)
+          (rw (read-back v, read-back (at-if1 .before .if12 .given)) at (at-if1 .if1 .left)) (rw (read-back hi, read-back v) at (c .if2 .left)),
+    )
 
 returns-3 : tie.Need-returns-3 Inv-loop μ-loop
 returns-3 c =

@@ -28,12 +28,12 @@ start c = c .before .before .before .before .before .before
 abbrev lower : tie.After-get Inv-loop μ-loop → ℕ
 lower c =
     let at-bounds = c .before .before .before in
-    c .get .result * at-bounds .before .object-width .result + at-bounds .bounds-at .result
+    c .get .result * at-bounds .before .object-cells .result + at-bounds .width .result
 
 lower-is : (c : tie.After-get Inv-loop μ-loop) → lower c ≡ bound-cell (start (c .before) .args .readers) (c .get .result)
 lower-is c =
     let at-bounds = c .before .before .before in
-    ap₂ (λ (w b : ℕ). c .get .result * w + b) (at-bounds .before .object-width .ensures) (at-bounds .bounds-at .ensures)
+    ap₂ (λ (w b : ℕ). c .get .result * w + b) (at-bounds .before .object-cells .ensures) (at-bounds .width .ensures)
 
 lower-lent : (c : tie.After-get Inv-loop μ-loop) → (lower c + 2) * 8 ≤ length (start (c .before) .args .objects .now)
 lower-lent c =
@@ -43,11 +43,11 @@ lower-lent c =
     let b = bounds-lent (a .readers) (i .left) (i .at) (cells (a .entries .now)) (a .objects .now) (i .inv .1) (in-loop .loop-test .taken) (c .get .result) (c .get .ensures) in
     omega (arith, lower-is c)
 
-object-width-requires : tie.Need-object-width-requires Inv-loop μ-loop
-object-width-requires c κs = search needs
+object-cells-requires : tie.Need-object-cells-requires Inv-loop μ-loop
+object-cells-requires c κs = search needs
 
-bounds-at-requires : tie.Need-bounds-at-requires Inv-loop μ-loop
-bounds-at-requires c κs = search needs
+width-requires : tie.Need-width-requires Inv-loop μ-loop
+width-requires c κs = search needs
 
 loop-holds : tie.Need-loop-holds Inv-loop μ-loop
 loop-holds c = search needs
@@ -121,8 +121,8 @@ stores-ok-spec =
     (tie.spec
     Inv-loop
     μ-loop
-    object-width-requires
-    bounds-at-requires
+    object-cells-requires
+    width-requires
     loop-holds
     get-requires
     mul-lower
