@@ -14,6 +14,7 @@ use mir.Syntax.{w64}
 use mir.Val.{toZ}
 use borrow.Author.Tests.{le-ltb, lt-ltb, le-leb, lt-leb, leb-true}
 use Rattle.execution.specs.Bounds.{Bounds, ordered, inside}
+use Rattle.execution.specs.ReadAgreement.{both}
 use Rattle.model.specs.Shape.{versions-inside}
 use Rattle.versions.specs.Block.{versions-in, block-versions}
 use Rattle.versions.specs.OnePass.{le-or-lt}
@@ -117,6 +118,21 @@ module _ (lower upper span : ℕ) (s : Spanned lower upper span) where
           ap (inside (bounds-of lower upper)) (below-zero v (omega arith) ∙ ap negsuc e) ∙ of-64-bits (2 ^ 64 - 1) (omega arith)
       by (inr h) = of-64-bits v h
 
+-- ---- bounds in order
+
+-- is the value whose bits are v inside?
+abbrev pub bits-inside : ℕ → ℕ → ℕ → Bool
+bits-inside lower upper v = inside (bounds-of lower upper) (toZ w64 v)
+
+-- where one value is inside, the lower bound is not above the upper one
+pub order-by : (lower upper v : ℕ) → lower < 2 ^ 64 → upper < 2 ^ 64 → v < 2 ^ 64 → bits-inside lower upper v ≡ true → ordered (bounds-of lower upper) ≡ true
+unfolding inside
+order-by lower upper v fl fu fv e =
+    let (above, below) = both (leZ (toZ w64 lower) (toZ w64 v)) (leZ (toZ w64 v) (toZ w64 upper)) e in
+    let a = leb-true (turned lower) (turned v) (sym (signed-order lower v fl fv) ∙ above) in
+    let b = leb-true (turned v) (turned upper) (sym (signed-order v upper fv fu) ∙ below) in
+    signed-order lower upper fl fu ∙ le-leb (turned lower) (turned upper) (omega arith)
+
 -- ---- the values of versions
 
 -- those from the k-th on, of count
@@ -148,7 +164,7 @@ pub inside-end : (lower upper count k : ℕ) (bc : List ℕ) → count ≤ k →
 unfolding versions-in
 inside-end lower upper count k bc h = let z : count - k ≡ 0 = omega arith in rw z
 
--- the values of a block's count versions are those of all
-pub of-count : (b : Bounds) (count : ℕ) (bc : List ℕ) (t : Bool) → getD bc 0 0 ≡ count → t ≡ versions-inside b (versions-in count (drop 1 bc)) → versions-inside b (block-versions bc) ≡ t
+-- of a block's count versions the newest is asked first
+pub newest-first : (lower upper count : ℕ) (bc : List ℕ) → getD bc 0 0 ≡ count → 1 ≤ count → versions-inside (bounds-of lower upper) (block-versions bc) ≡ bits-inside lower upper (getD bc 2 0) && rest-inside lower upper count 1 bc
 unfolding block-versions
-of-count b count bc t e i = ap (λ (m : ℕ). versions-inside b (versions-in m (drop 1 bc))) e ∙ sym i
+newest-first lower upper count bc e h = rw (e, versions-step count 1 bc h)

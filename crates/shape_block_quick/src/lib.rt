@@ -9,13 +9,12 @@ ghost use mathlib.Core.Bool.{true, _&&_};
 ghost use mathlib.Core.List.{List, []};
 ghost use Prim.Native.Nat.{ℕ, _+_, _*_, _-_, _≤_};
 ghost use lib.Dec.{ltb, leb};
-ghost use lib.ListN.{length, getD, drop};
+ghost use lib.ListN.{length, getD};
 ghost use Rattle.cells.specs.Cells.{cells};
 ghost use Rattle.execution.specs.Bounds.{ordered};
-ghost use Rattle.model.specs.Shape.{versions-inside};
-ghost use Rattle.versions.specs.Block.{width, object-cells, versions-in, block-versions, block-of, bounds-at, block-ok, bounds-ok, object-ok};
+ghost use Rattle.versions.specs.Block.{width, object-cells, block-of, bounds-at, block-ok, bounds-ok, object-ok};
 ghost use Rattle.shape_block_quick.specs.Quick.{Sound, ObjectSound};
-ghost use Rattle.shape_block_quick.specs.Difference.{bounds-of};
+ghost use Rattle.shape_block_quick.specs.Difference.{bounds-of, bits-inside, rest-inside};
 
 // The test where there are count versions, two or more. Version k is held where the reader found by going down from the last one's is above its
 // stamp; the oldest is held by the earliest reader, whose cell is low, or by none. Called with a literal count, the loop becomes straight code.
@@ -91,25 +90,26 @@ fn single(block: &[u8], readers: usize, low: u64) -> bool
     false
 }
 
-// Is the lower bound not above the upper one? They are bits; what is compared are the signed numbers. Once an object, before `all_inside`.
-fn in_order(lower: u64, upper: u64) -> bool
-    ensures { λ r. ⌜ r ≡ ordered (bounds-of lower upper) ⌝ }
+// Is the value inside the bounds? All three are bits; what is compared are the signed numbers. Where one is inside, the bounds are in order.
+fn inside(value: u64, lower: u64, upper: u64) -> bool
+    ensures { λ r. ⌜ r ≡ bits-inside lower upper value ⌝ }
 {
-    cells::signed(lower) <= cells::signed(upper)
+    let v = cells::signed(value);
+    cells::signed(lower) <= v && v <= cells::signed(upper)
 }
 
-// Is the value of each of the first count versions inside the bounds, which are in order? One test a version: its difference to lower, modulo 2^64, is
-// not above that of upper, the span. Nothing is outside the widest bounds: they are not asked. Called with a literal count, it is straight code.
-fn all_inside(block: &[u8], count: usize, lower: u64, upper: u64) -> bool
-    requires versions { ⌜ (1 + 2 * count) * 8 ≤ length (now block) ⌝ }
+// Are the values of all versions but the newest, of count, inside the bounds, which are in order? One test a version: its difference to lower, modulo
+// 2^64, is not above that of upper, the span. Nothing is outside the widest bounds: they are not asked. Called with a literal count, it is straight code.
+fn older_inside(block: &[u8], count: usize, lower: u64, upper: u64) -> bool
+    requires versions { ⌜ (1 ≤ count) × ((1 + 2 * count) * 8 ≤ length (now block)) ⌝ }
     requires order { ⌜ ordered (bounds-of lower upper) ≡ true ⌝ }
-    ensures { λ r. ⌜ r ≡ versions-inside (bounds-of lower upper) (versions-in count (drop 1 (cells (now (block .entry))))) ⌝ }
+    ensures { λ r. ⌜ r ≡ rest-inside lower upper count 1 (cells (now (block .entry))) ⌝ }
 {
     let span = std::num::wrapping_sub_u64(upper, lower);
     if span == u64::MAX {
         return true;
     }
-    let mut i = 0;
+    let mut i = 1;
     while i < count {
         let v = cells::get(block, 2 + 2 * i);
         if span < std::num::wrapping_sub_u64(v, lower) {
@@ -120,45 +120,26 @@ fn all_inside(block: &[u8], count: usize, lower: u64, upper: u64) -> bool
     true
 }
 
-// The test on one object's block beside its bounds, which are in order, by its number of versions: their values, then their stamps. Most objects have
-// one version: it is asked before the match. More than eight are left to `shape_versions`.
-fn block_quick(
-    block: &[u8],
-    d: &[u64; 17],
-    q: usize,
-    readers: usize,
-    timestamp: u64,
-    low: u64,
-    lower: u64,
-    upper: u64,
-) -> bool
-    requires size { ⌜ length (now block) ≡ width readers * 8 ⌝ }
-    requires sorted { ⌜ (q ≤ 16) × (getD (now d) 0 0 ≡ 0) ⌝ }
-    requires order { ⌜ ordered (bounds-of lower upper) ≡ true ⌝ }
-    ensures rules { λ r. ⌜ Sound readers timestamp low (now (d .entry)) (now (block .entry)) r ⌝ }
-    ensures inside { λ r. ⌜ (r ≡ true → versions-inside (bounds-of lower upper) (block-versions (cells (now (block .entry)))) ≡ true) ⌝ }
+// The bounds' rules on one object of count versions: its lower bound is not above its upper one, and every version is inside. This one decides.
+// The newest version is asked first, and no order of the bounds apart from that. Called with a literal count behind the test of the versions, so that no
+// bound takes a register before.
+fn bounds_hold(object: &[u8], readers: usize, count: usize) -> bool
+    requires size { ⌜ length (now object) ≡ object-cells readers * 8 ⌝ }
+    requires versions { ⌜ (getD (block-of readers (cells (now object))) 0 0 ≡ count) × (1 ≤ count) × (count ≤ readers + 1) ⌝ }
+    ensures { λ r. ⌜ r ≡ bounds-ok (bounds-at readers (cells (now (object .entry)))) (block-of readers (cells (now (object .entry)))) ⌝ }
 {
-    let count = cells::get(block, 0);
-    if count == 1 {
-        return all_inside(block, 1, lower, upper) && single(block, readers, low);
+    let w = versions::width(readers);
+    let end = w * 8;
+    let lower = cells::get(object, w);
+    let upper = cells::get(object, w + 1);
+    if inside(cells::get(object, 2), lower, upper) {
+        return older_inside(&object[..end], count, lower, upper);
     }
-    if readers + 1 < count as usize {
-        return false;
-    }
-    match count {
-        2 => all_inside(block, 2, lower, upper) && quick(block, d, q, readers, timestamp, low, 2),
-        3 => all_inside(block, 3, lower, upper) && quick(block, d, q, readers, timestamp, low, 3),
-        4 => all_inside(block, 4, lower, upper) && quick(block, d, q, readers, timestamp, low, 4),
-        5 => all_inside(block, 5, lower, upper) && quick(block, d, q, readers, timestamp, low, 5),
-        6 => all_inside(block, 6, lower, upper) && quick(block, d, q, readers, timestamp, low, 6),
-        7 => all_inside(block, 7, lower, upper) && quick(block, d, q, readers, timestamp, low, 7),
-        8 => all_inside(block, 8, lower, upper) && full(block, d, readers, timestamp, low, 8),
-        _ => false,
-    }
+    false
 }
 
-// The test on one object. d and q are those of `shape_readers::sort_open`, low is the smallest open reader's cell, or timestamp + 1. Bounds that are
-// not in order are refused first, so that each arm asks its values by differences.
+// The test on one object, by its number of versions. d and q are those of `shape_readers::sort_open`, low is the smallest open reader's cell, or
+// timestamp + 1. Most objects have one version: it is asked before the match. More than eight are left to `shape_versions`.
 pub fn object_quick(
     object: &[u8],
     d: &[u64; 17],
@@ -171,32 +152,34 @@ pub fn object_quick(
     requires sorted { ⌜ (q ≤ 16) × (getD (now d) 0 0 ≡ 0) ⌝ }
     ensures { λ r. ⌜ ObjectSound readers timestamp low (now (d .entry)) (now (object .entry)) r ⌝ }
 {
-    let w = versions::width(readers);
-    let end = w * 8;
-    let lower = cells::get(object, w);
-    let upper = cells::get(object, w + 1);
-    if in_order(lower, upper) {
-        return block_quick(&object[..end], d, q, readers, timestamp, low, lower, upper);
+    let end = versions::width(readers) * 8;
+    let block = &object[..end];
+    let count = cells::get(block, 0);
+    if count == 1 {
+        return single(block, readers, low) && bounds_hold(object, readers, 1);
     }
-    false
+    if readers + 1 < count as usize {
+        return false;
+    }
+    match count {
+        2 => quick(block, d, q, readers, timestamp, low, 2) && bounds_hold(object, readers, 2),
+        3 => quick(block, d, q, readers, timestamp, low, 3) && bounds_hold(object, readers, 3),
+        4 => quick(block, d, q, readers, timestamp, low, 4) && bounds_hold(object, readers, 4),
+        5 => quick(block, d, q, readers, timestamp, low, 5) && bounds_hold(object, readers, 5),
+        6 => quick(block, d, q, readers, timestamp, low, 6) && bounds_hold(object, readers, 6),
+        7 => quick(block, d, q, readers, timestamp, low, 7) && bounds_hold(object, readers, 7),
+        8 => full(block, d, readers, timestamp, low, 8) && bounds_hold(object, readers, 8),
+        _ => false,
+    }
 }
 
-// The bounds' rules on one object, whatever its number of versions, as long as its block has room for them: its lower bound is not above its upper
-// one, and every version is inside. This one decides.
+// The bounds' rules on one object of any number of versions that its block has room for. This one decides.
 pub fn bounds_ok(object: &[u8], readers: usize) -> bool
     requires size { ⌜ length (now object) ≡ object-cells readers * 8 ⌝ }
-    requires versions { ⌜ getD (block-of readers (cells (now object))) 0 0 ≤ readers + 1 ⌝ }
+    requires versions { ⌜ (1 ≤ getD (block-of readers (cells (now object))) 0 0) × (getD (block-of readers (cells (now object))) 0 0 ≤ readers + 1) ⌝ }
     ensures { λ r. ⌜ r ≡ bounds-ok (bounds-at readers (cells (now (object .entry)))) (block-of readers (cells (now (object .entry)))) ⌝ }
 {
-    let w = versions::width(readers);
-    let end = w * 8;
-    let lower = cells::get(object, w);
-    let upper = cells::get(object, w + 1);
-    if in_order(lower, upper) {
-        let block = &object[..end];
-        return all_inside(block, cells::get(block, 0) as usize, lower, upper);
-    }
-    false
+    bounds_hold(object, readers, cells::get(object, 0) as usize)
 }
 
 // The versions' rules on one block where no reader is open: one version, not above the timestamp. This one decides.
@@ -212,21 +195,14 @@ fn block_alone(block: &[u8], readers: usize, timestamp: u64) -> bool
     false
 }
 
-// The shape check's rules on one object where no reader is open: one version by `block_alone`, so that a literal count is right, and that one inside
-// the bounds. This one decides.
+// The shape check's rules on one object where no reader is open: its one version, and that one inside the bounds. This one decides.
 pub fn alone(object: &[u8], readers: usize, timestamp: u64) -> bool
     requires { ⌜ length (now object) ≡ object-cells readers * 8 ⌝ }
     ensures { λ r. ⌜ r ≡ object-ok readers timestamp [] (cells (now (object .entry))) ⌝ }
 {
-    let w = versions::width(readers);
-    let end = w * 8;
-    let block = &object[..end];
-    if block_alone(block, readers, timestamp) {
-        let lower = cells::get(object, w);
-        let upper = cells::get(object, w + 1);
-        if in_order(lower, upper) {
-            return all_inside(block, 1, lower, upper);
-        }
+    let end = versions::width(readers) * 8;
+    if block_alone(&object[..end], readers, timestamp) {
+        return bounds_hold(object, readers, 1);
     }
     false
 }

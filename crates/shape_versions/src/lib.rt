@@ -142,6 +142,28 @@ fn objects_general(
     true
 }
 
+// The same in two halves, so that `objects_general` is called twice and stays a function of its own. Made part of the whole check, it would keep the
+// readers' cells in registers that the quick test's loop needs, and the place of the object would go through memory at each turn.
+fn objects_by_halves(
+    blocks: &[u8],
+    snapshots: &[u8],
+    readers: usize,
+    n: usize,
+    timestamp: u64,
+    low: u64,
+) -> bool
+    requires lent { ⌜ LentBlocks readers n (now snapshots) (now blocks) ⌝ }
+    requires low { ⌜ low ≡ lowest (timestamp + 1) (cells (now snapshots)) ⌝ }
+    ensures { λ r. ⌜ r ≡ blocks-ok readers timestamp (cells (now (snapshots .entry))) n (cells (now (blocks .entry))) ⌝ }
+{
+    let half = n / 2;
+    let mid = half * (versions::object_cells(readers) * 8);
+    if objects_general(&blocks[..mid], snapshots, readers, half, timestamp, low) {
+        return objects_general(&blocks[mid..], snapshots, readers, n - half, timestamp, low);
+    }
+    false
+}
+
 // The same where no reader is open: a loop of its own, with registers enough for the one form that is left.
 fn objects_alone(blocks: &[u8], readers: usize, n: usize, timestamp: u64) -> bool
     requires { ⌜ (length (now blocks) ≡ n * (object-cells readers * 8)) × (readers < 2 ^ 32) ⌝ }
@@ -177,5 +199,5 @@ pub fn objects_ok(blocks: &[u8], snapshots: &[u8], readers: usize, n: usize, tim
     if shape_versions_quick::objects_quick(blocks, snapshots, readers, n, timestamp, low) {
         return true;
     }
-    objects_general(blocks, snapshots, readers, n, timestamp, low)
+    objects_by_halves(blocks, snapshots, readers, n, timestamp, low)
 }

@@ -1,95 +1,26 @@
--- `shape_block_quick::bounds_ok` meets its contract: a law for each way out.
-use mathlib.Core.Path.{sym, _∙_}
-use Prim.Native.Nat.{_+_, _*_, _≤_}
+-- `shape_block_quick::bounds_ok` meets its contract: an object's first cell is its block's.
+use mathlib.Core.Path.{_≡_, sym, _∙_}
 use native.Mathlib.Omega.{arith}
-use lib.ListN.{take}
+use lib.ListN.{getD}
+use lib.Seq.{getD-take}
 use borrow.Author.Needs.{needs}
 use Rattle.cells.specs.Cells.{cells}
-use Rattle.shape_block_quick.specs.Difference.{bounds-of, of-count}
-use Rattle.shape_block_quick.specs.Objects.{block-part, block-length, bounds-no, bounds-by}
+use Rattle.versions.specs.Block.{width, block-of}
 use Rattle.shape_block_quick.proofs.bounds_ok.Statement.{statement}
 use Rattle.shape_block_quick.proofs.bounds_ok.Tie as tie
-
-width-requires : tie.Need-width-requires
-width-requires c κs = search needs
-
-mul-end : tie.Need-mul-end
-mul-end c = search needs
 
 get-requires : tie.Need-get-requires
 get-requires c κs = search needs
 
-add-get : tie.Need-add-get
-add-get c = search needs
-
-get-requires-2 : tie.Need-get-requires-2
-get-requires-2 c κs = search needs
-
-in-order-requires : tie.Need-in-order-requires
-in-order-requires c κs = search needs
-
-slice-aggregate-block : tie.Need-slice-aggregate-block
-slice-aggregate-block c =
-    let at-width = c .before .before .before .before .before in
-    let start = at-width .before .before in
-    let w = at-width .width in
-    omega (arith, w .ensures, block-length (start .args .readers) (start .args .object .now) (w .result) (w .ensures) (start .pre .0))
-
-get-requires-3 : tie.Need-get-requires-3
-get-requires-3 c κs =
-    let at-width = c .before .before .before .before .before in
-    let start = at-width .before .before in
-    let w = at-width .width in
-    omega (arith, block-length (start .args .readers) (start .args .object .now) (w .result) (w .ensures) (start .pre .0))
-
-all-inside-requires : tie.Need-all-inside-requires
-all-inside-requires c κs =
-    let at-order = c .before .before .before in
-    let at-width = at-order .before .before .before in
-    let start = at-width .before .before in
+bounds-hold-requires : tie.Need-bounds-hold-requires
+bounds-hold-requires c κs =
+    let start = c .before .before in
     let a = start .args in
-    let xs = a .object .now in
-    let w = at-width .width in
-    let few : c .get3 .result ≤ a .readers + 1 = rw (c .get3 .ensures, block-part (a .readers) xs (w .result) (w .ensures)) (start .pre .1) in
-    (omega (arith, block-length (a .readers) xs (w .result) (w .ensures) (start .pre .0)), sym (at-order .in-order .ensures) ∙ c .before .before .if1 .taken)
+    let count : getD (block-of (a .readers) (cells (a .object .now))) 0 0 ≡ c .get .result = getD-take (width (a .readers)) (cells (a .object .now)) 0 0 (omega arith) ∙ sym (c .get .ensures) in
+    (start .pre .0, (count, omega (arith, count, start .pre .1), omega (arith, count, start .pre .1)))
 
 returns : tie.Need-returns
-returns c =
-    let at-count = c .before in
-    let at-order = at-count .before .before .before in
-    let u = at-order .before .get2 in
-    let l = at-order .before .before .get in
-    let at-width = at-order .before .before .before in
-    let a = at-width .before .before .args in
-    let xs = a .object .now in
-    let w = at-width .width in
-    let v = c .all-inside in
-    let order = sym (at-order .in-order .ensures) ∙ at-count .before .before .if1 .taken in
-    sym (bounds-by (a .readers) xs (w .result) (w .ensures) (l .result) (u .result) (l .ensures) (u .ensures) order
-    ∙ of-count (bounds-of (l .result) (u .result)) (at-count .get3 .result) (cells (take (w .result * 8) xs)) (v .result) (sym (at-count .get3 .ensures)) (v .ensures))
-
-returns-2 : tie.Need-returns-2
-returns-2 c =
-    let at-order = c .before in
-    let u = at-order .before .get2 in
-    let l = at-order .before .before .get in
-    let at-width = at-order .before .before .before in
-    let a = at-width .before .before .args in
-    let w = at-width .width in
-    sym (bounds-no (a .readers) (a .object .now) (w .result) (w .ensures) (l .result) (u .result) (l .ensures) (u .ensures) (sym (at-order .in-order .ensures) ∙ c .if1 .left))
+returns c = c .bounds-hold .ensures
 
 pub bounds-ok-spec : {M : Type 1} → statement M
-bounds-ok-spec =
-    tie.close
-    (tie.spec
-    width-requires
-    mul-end
-    get-requires
-    add-get
-    get-requires-2
-    in-order-requires
-    slice-aggregate-block
-    get-requires-3
-    all-inside-requires
-    returns
-    returns-2)
+bounds-ok-spec = tie.close (tie.spec get-requires bounds-hold-requires returns)

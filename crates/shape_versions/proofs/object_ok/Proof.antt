@@ -3,7 +3,7 @@ use mathlib.Core.Path.{sym, _∙_}
 use native.Mathlib.Omega.{arith}
 use borrow.Author.Needs.{needs}
 use Rattle.cells.specs.Cells.{cells}
-use Rattle.shape_block_quick.specs.Objects.{block-length, object-no, object-by, object-room}
+use Rattle.shape_block_quick.specs.Objects.{block-length, object-no, object-by, object-room, object-some}
 use Rattle.shape_versions.proofs.object_ok.Statement.{statement}
 use Rattle.shape_versions.proofs.object_ok.Tie as tie
 
@@ -35,8 +35,10 @@ bounds-ok-requires c κs =
     let start = at-width .before .before .before in
     let a = start .args in
     let w = at-width .width in
-    let room = object-room (a .readers) (a .object .now) (w .result) (w .ensures) (a .timestamp) (cells (a .snapshots .now)) in
-    (start .pre .0 .1, room (sym (at-block .block-ok .ensures) ∙ c .if1 .taken))
+    let ok = sym (at-block .block-ok .ensures) ∙ c .if1 .taken in
+    let some = object-some (a .readers) (a .object .now) (w .result) (w .ensures) (a .timestamp) (cells (a .snapshots .now)) ok in
+    let room = object-room (a .readers) (a .object .now) (w .result) (w .ensures) (a .timestamp) (cells (a .snapshots .now)) ok in
+    (start .pre .0 .1, (some, room))
 
 returns : tie.Need-returns
 returns c =

@@ -35,8 +35,8 @@ objects-quick-requires c κs = search needs
 returns-2 : tie.Need-returns-2
 returns-2 c = sym (c .before .objects-quick .ensures (c .if2 .taken))
 
-objects-general-requires : tie.Need-objects-general-requires
-objects-general-requires c κs = search needs
+objects-by-halves-requires : tie.Need-objects-by-halves-requires
+objects-by-halves-requires c κs = search needs
 
 returns-3 : tie.Need-returns-3
 returns-3 c = search needs
@@ -52,5 +52,5 @@ objects-ok-spec =
     lowest-open-requires
     objects-quick-requires
     returns-2
-    objects-general-requires
+    objects-by-halves-requires
     returns-3)

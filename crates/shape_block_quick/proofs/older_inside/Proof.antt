@@ -1,18 +1,16 @@
--- `shape_block_quick::all_inside` meets its contract. Invariant: the answer is that of the versions from the i-th on. The measure is their number.
-use mathlib.Core.Path.{_≡_, sym, ap, _∙_}
-use Prim.Native.Nat.{ℕ, _≤_, _-_}
+-- `shape_block_quick::older_inside` meets its contract. Invariant: the answer is that of the versions from the i-th on. The measure is their number.
+use mathlib.Core.Path.{_≡_, refl, sym, _∙_}
+use Prim.Native.Nat.{_≤_, _-_}
 use native.Mathlib.Omega.{arith}
 use borrow.Author.Needs.{needs}
 use lib.ListN.{drop}
 use Rattle.cells.specs.Cells.{cells}
-use Rattle.model.specs.Shape.{versions-inside}
-use Rattle.versions.specs.Block.{versions-in}
-use Rattle.shape_block_quick.specs.Difference.{bounds-of, rest-inside, Spanned, inside-next, inside-no, inside-all, inside-end}
-use Rattle.shape_block_quick.proofs.all_inside.Statement.{statement}
-use Rattle.shape_block_quick.proofs.all_inside.Tie as tie
+use Rattle.shape_block_quick.specs.Difference.{rest-inside, Spanned, inside-next, inside-no, inside-all, inside-end}
+use Rattle.shape_block_quick.proofs.older_inside.Statement.{statement}
+use Rattle.shape_block_quick.proofs.older_inside.Tie as tie
 
 abbrev Inv-loop : tie.InvT-loop
-Inv-loop block count lower upper span i₀ i = (i ≤ count) × (versions-inside (bounds-of lower upper) (versions-in count (drop 1 (cells block))) ≡ rest-inside lower upper count i (cells block))
+Inv-loop block count lower upper span i₀ i = (i ≤ count) × (rest-inside lower upper count 1 (cells block) ≡ rest-inside lower upper count i (cells block))
 
 abbrev μ-loop : tie.MeasureT-loop
 μ-loop block count lower upper span i₀ i = count - i
@@ -29,13 +27,10 @@ returns : tie.Need-returns Inv-loop μ-loop
 returns c =
     let at-span = c .before in
     let a = at-span .before .before .args in
-    sym (inside-all (a .lower) (a .upper) (at-span .wrapping-sub-u64 .result) (spanned at-span) (c .if1 .taken) (a .count) (drop 1 (cells (a .block .now))))
+    sym (inside-all (a .lower) (a .upper) (at-span .wrapping-sub-u64 .result) (spanned at-span) (c .if1 .taken) (a .count - 1) (drop 3 (cells (a .block .now))))
 
 loop-holds : tie.Need-loop-holds Inv-loop μ-loop
-loop-holds c =
-    let a = c .before .before .before .args in
-    let n : a .count ≡ a .count - 0 = omega arith in
-    (search needs, ap (λ (m : ℕ). versions-inside (bounds-of (a .lower) (a .upper)) (versions-in m (drop 1 (cells (a .block .now))))) n)
+loop-holds c = (search needs, refl)
 
 mul-get : tie.Need-mul-get Inv-loop μ-loop
 mul-get c = search needs
@@ -85,8 +80,8 @@ returns-3 c =
     let l = c .before .loop in
     sym (l .inv .1 ∙ inside-end (a .lower) (a .upper) (a .count) (l .i) (cells (a .block .now)) (omega arith))
 
-pub all-inside-spec : {M : Type 1} → statement M
-all-inside-spec =
+pub older-inside-spec : {M : Type 1} → statement M
+older-inside-spec =
     tie.close
     (tie.spec
     Inv-loop
