@@ -4,9 +4,11 @@ ghost use mathlib.Core.Path.{_≡_};
 ghost use mathlib.Core.Bool.{_||_};
 ghost use Prim.Native.Nat.{_+_, _*_, _^_, _≤_, _<_};
 ghost use lib.Dec.{eqb};
-ghost use lib.ListN.{length};
+ghost use lib.ListN.{length, drop};
 ghost use Rattle.cells.specs.Cells.{cells};
+ghost use Rattle.cells.specs.Zeros.{zeros};
 ghost use Rattle.operation.specs.Columns.{most-operations};
+ghost use Rattle.layout.specs.Offsets.{entry-at};
 ghost use Rattle.execution.specs.Bounds.{inside};
 ghost use Rattle.shape_row.specs.RowScan.{key-in, body-in, bounds-from, stores-in, sets-in, run-in, row-in, cells-of, place-of};
 ghost use Rattle.shape_row.specs.LentRow.{Objects, Named, Row};
@@ -77,6 +79,32 @@ fn stores_ok(entries: &[u8], objects: &[u8], readers: usize, count: usize) -> bo
     true
 }
 
+// Are the cells of a row behind its first count entries zero? Called with a literal count it is straight code.
+fn behind_zero(row: &[u8], most: usize, count: usize) -> bool
+    requires { ⌜ (length (now row) ≡ cells-of most * 8) × (count ≤ most) ⌝ }
+    ensures { λ r. ⌜ r ≡ zeros (drop (entry-at count) (cells (now (row .entry)))) ⌝ }
+{
+    let end = layout::ROW_FIRST_ENTRY + count * layout::ENTRY_WIDTH;
+    cells::cells_zero(row, end, row_cells(most))
+}
+
+// The same by the number of entries, of which there are few in most rows: a loop of a length that changes from row to row takes as long again.
+fn rest_zero(row: &[u8], most: usize, both: usize) -> bool
+    requires { ⌜ (length (now row) ≡ cells-of most * 8) × (both ≤ most) ⌝ }
+    ensures { λ r. ⌜ r ≡ zeros (drop (entry-at both) (cells (now (row .entry)))) ⌝ }
+{
+    match both {
+        2 => behind_zero(row, most, 2),
+        3 => behind_zero(row, most, 3),
+        4 => behind_zero(row, most, 4),
+        5 => behind_zero(row, most, 5),
+        6 => behind_zero(row, most, 6),
+        7 => behind_zero(row, most, 7),
+        8 => behind_zero(row, most, 8),
+        _ => behind_zero(row, most, both),
+    }
+}
+
 // The entries of a row: so many reads, then writes, so many of both, the writes inside their objects' bounds, and zeros behind them.
 fn sets_ok(
     row: &[u8],
@@ -94,11 +122,10 @@ fn sets_ok(
     let from = (layout::ROW_FIRST_ENTRY + reads * layout::ENTRY_WIDTH) * 8;
     let writes = &row[from..];
     let stores = both - reads;
-    let end = layout::ROW_FIRST_ENTRY + both * layout::ENTRY_WIDTH;
     if shape_names::names_ok(&row[first..], reads, n) {
         if shape_names::names_ok(writes, stores, n) {
             if stores_ok(writes, objects, readers, stores) {
-                return cells::cells_zero(row, end, row_cells(most));
+                return rest_zero(row, most, both);
             }
         }
     }

@@ -8,7 +8,7 @@ use Rattle.cells.specs.Cells.{cells}
 use Rattle.shape_names.specs.NameScan.{names-in}
 use Rattle.shape_row.specs.RowScan.{cells-of, stores-in}
 use Rattle.shape_names.specs.NameTests.{rest-cells}
-use Rattle.shape_row.specs.RowTests.{zeros-rest, sets-reads, sets-writes, sets-outside, sets-behind}
+use Rattle.shape_row.specs.RowTests.{sets-reads, sets-writes, sets-outside, sets-behind}
 use Rattle.shape_row.proofs.sets_ok.Statement.{statement}
 use Rattle.shape_row.proofs.sets_ok.Tie as tie
 
@@ -64,12 +64,6 @@ part-writes-end c = search needs
 sub-stores : tie.Need-sub-stores
 sub-stores c = search needs
 
-mul-end : tie.Need-mul-end
-mul-end c = search needs
-
-add-end : tie.Need-add-end
-add-end c = search needs
-
 sub-names-ok : tie.Need-sub-names-ok
 sub-names-ok c = search needs
 
@@ -91,25 +85,20 @@ stores-ok-requires c κs =
     let d = start (before-writes at-writes) in
     (search needs, record { n = d .args .n; lent = d .pre .3; names = sym (at-writes .names-ok2 .ensures) ∙ c .if2 .taken })
 
-row-cells-requires : tie.Need-row-cells-requires
-row-cells-requires c κs = search needs
-
-cells-zero-requires : tie.Need-cells-zero-requires
-cells-zero-requires c κs = search needs
+rest-zero-requires : tie.Need-rest-zero-requires
+rest-zero-requires c κs = search needs
 
 returns : tie.Need-returns
 returns c =
-    let at-cells = c .before in
-    let inside = at-cells .before in
+    let inside = c .before in
     let at-stores = inside .before in
     let at-writes = before-stores at-stores in
     let at-reads = before-writes at-writes in
     let d = start at-reads in
     let a = d .args in
-    let z = rw (at-cells .row-cells .ensures) at (c .cells-zero .ensures) in
     sets-behind (a .readers) (cells (a .objects .now)) (a .n) (a .reads) (a .both) (cells (a .row .now)) (at-reads .names-ok .result) (reads at-reads) (at-writes .before .if1 .taken)
     (at-writes .names-ok2 .result) (writes at-writes) (at-stores .before .if2 .taken) (at-stores .stores-ok .result) (stores at-stores) (inside .if3 .taken)
-    (c .cells-zero .result) (z ∙ zeros-rest (a .row .now) (cells-of (a .most)) (9 + a .both * 2) (d .pre .0))
+    (c .rest-zero .result) (c .rest-zero .ensures)
 
 returns-2 : tie.Need-returns-2
 returns-2 c =
@@ -146,16 +135,13 @@ sets-ok-spec =
     part-writes-start
     part-writes-end
     sub-stores
-    mul-end
-    add-end
     sub-names-ok
     part-names-ok-start
     part-names-ok-end
     names-ok-requires
     names-ok-requires-2
     stores-ok-requires
-    row-cells-requires
-    cells-zero-requires
+    rest-zero-requires
     returns
     returns-2
     returns-3
