@@ -2,7 +2,7 @@
 use mathlib.Core.Bool.{Bool, true, false, cond, _&&_}
 use mathlib.Core.Option.{Option, none, some, Option·getD}
 use mathlib.Core.List.{List, [], _∷_, head?}
-use Prim.Native.Nat.{ℕ, zero, suc, _+_, _*_, _/_}
+use Prim.Native.Nat.{ℕ, zero, suc, _+_}
 use lib.IntN.{ℤ, pos, _+ℤ_, _-ℤ_}
 use lib.Signed.{ltZ}
 use lib.ListN.{length, getD, set, drop, replicate}
@@ -11,26 +11,22 @@ use Rattle.operation.specs.Body.{register-count}
 use Rattle.operation.specs.declared.Operation.{Operation}
 use Rattle.operation.specs.declared.Operation.the-variants.{Load, Store, Set, Add, Subtract, Skip, Fail, Divide}
 use Rattle.execution.specs.Entries.{Entry, lookup, update, append}
-use Rattle.execution.specs.Bounds.{Bounds, inside}
 
 -- what a run sees of the objects: their values, and which values each may take
 pub record Table : Type 0 where
   pub look : ℕ → ℤ
   pub allow : ℕ → ℤ → Bool
 
--- A lent table has three numbers an object: value, lower bound, upper bound. Past its end all are 0.
+-- a list of values as a table, with what each object may take; past its end the value is 0
 abbrev pub value-of : List ℤ → ℕ → ℤ
-value-of vs o = getD vs (o * 3) (pos 0)
+value-of vs o = getD vs o (pos 0)
 
-abbrev pub bounds-of : List ℤ → ℕ → Bounds
-bounds-of vs o = record { lower = getD vs (o * 3 + 1) (pos 0); upper = getD vs (o * 3 + 2) (pos 0) }
+abbrev pub table-of : List ℤ → (ℕ → ℤ → Bool) → Table
+table-of vs allow = record { look = value-of vs; allow = allow }
 
-abbrev pub table-of : List ℤ → Table
-table-of vs = record { look = value-of vs; allow = λ o. inside (bounds-of vs o) }
-
--- how many objects it has. Contracts say no more of a lent table than these two.
+-- how many objects it has
 abbrev pub object-count : List ℤ → ℕ
-object-count vs = length vs / 3
+object-count vs = length vs
 
 -- Why a run stops before its end, and the outcome that says so: "1 fail, 2 overflow (an add or subtract that leaves 64 bits)" and, since S-1 of
 -- document 02, "a store of a value outside .. stops the job with outcome 3"

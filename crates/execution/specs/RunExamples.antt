@@ -10,7 +10,8 @@ use Rattle.operation.specs.Encode.{written, encode}
 use Rattle.operation.specs.declared.Operation.{Operation}
 use Rattle.operation.specs.declared.Operation.the-variants.{Load, Store, Set, Add, Subtract, Skip, Fail, Divide}
 use Rattle.execution.specs.Entries.{Entry, entry}
-use Rattle.execution.specs.Bounds.{inside}
+use Rattle.execution.specs.Bounds.{widest, inside}
+use Rattle.execution.specs.LentTable.{lent-table}
 use Rattle.execution.specs.Run.{Table, table-of, failed, overflowed, Move, get, put, go, halt, sum, move, Run, start, obey, step, steps, whole, counted, matches, over}
 
 -- the ends of 64 bits
@@ -20,13 +21,17 @@ most = pos 9223372036854775807
 abbrev least : ℤ
 least = negsuc 9223372036854775807
 
+abbrev values : List ℤ
+values = pos 10 ∷ pos 20 ∷ pos 30 ∷ []
+
 -- the objects of "A small depot": 10, 20, 30, with the widest bounds
 abbrev depot : Table
-depot = table-of (pos 10 ∷ least ∷ most ∷ pos 20 ∷ least ∷ most ∷ pos 30 ∷ least ∷ most ∷ [])
+depot = table-of values (λ o. inside widest)
 
--- the same with bounds: 5 to 15, 0 to 40, -7 to 30
+-- the same with bounds as they stand in cells, from cell 1 on and three cells apart: 5 to 15, 0 to 40, -7 to 30
 abbrev bounded-depot : Table
-bounded-depot = table-of (pos 10 ∷ pos 5 ∷ pos 15 ∷ pos 20 ∷ pos 0 ∷ pos 40 ∷ pos 30 ∷ negsuc 6 ∷ pos 30 ∷ [])
+bounded-depot =
+    lent-table values (record { first = 1; stride = 3 }) (9 ∷ 5 ∷ 15 ∷ 9 ∷ 0 ∷ 40 ∷ 9 ∷ 18446744073709551609 ∷ 30 ∷ 9 ∷ [])
 
 -- its transactions A, B and C
 unfoldable pub body-a : List Operation

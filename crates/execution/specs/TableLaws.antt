@@ -1,23 +1,21 @@
 -- A table beside a set of n entries: agreement with a read set, and a write set laid over it from its last entry on. Entry i is f i, wherever it stands.
 -- Assumes nothing.
-use Prim.Native.Nat.{ℕ, zero, suc, _+_, _*_, _≤_, _<_}
-use mathlib.Core.Path.{_≡_, refl, sym, ap, _∙_, fun-ext}
-use mathlib.Core.Logic.{_≢_}
+use Prim.Native.Nat.{ℕ, zero, suc, _≤_, _<_}
+use mathlib.Core.Path.{_≡_, refl, sym, _∙_, fun-ext}
 use mathlib.Core.Bool.{Bool, true, false, cond, and-false}
 use mathlib.Core.Option.{some, Option·getD}
 use mathlib.Core.List.{List, [], _∷_}
 use native.Mathlib.Omega.{arith}
 use lib.IntN.{ℤ, pos}
 use lib.Dec.{eqb}
-use lib.ListN.{length, getD, set, drop, length-set}
+use lib.ListN.{set, drop, length-set}
 use lib.Seq.{getD-set-same, getD-set-other}
 use borrow.Author.Tests.{eqb-true, eqb-false, ltb-true}
 use Rattle.arith.specs.Integer.{eq-z, fits}
 use Rattle.arith.specs.IntegerLaws.{eq-eq-z, ne-eq-z}
 use Rattle.operation.specs.Body.{listed}
 use Rattle.execution.specs.Entries.{Entry, lookup}
-use Rattle.execution.specs.Run.{Table, value-of, bounds-of, table-of, object-count, matches, over}
-use Rattle.execution.specs.Bounds.{Bounds, inside}
+use Rattle.execution.specs.Run.{Table, value-of, table-of, object-count, matches, over}
 use Rattle.execution.specs.ReadAgreement.{both}
 use Rattle.execution.specs.RunShape.{sound, every}
 
@@ -60,39 +58,32 @@ module _ (f : ℕ → Entry) (n : ℕ) (first : List ℤ) where
   -- `table` is `first` with the entries from i on laid over it
   pub record Laid (table : List ℤ) (i : ℕ) : Type 0 where
     pub within : i ≤ n
-    pub same : length table ≡ length first
-    pub values : (o : ℕ) → value-of table o ≡ over (drop i (listed f n)) (table-of first) .look o
-    pub bounds : (o : ℕ) → bounds-of table o ≡ bounds-of first o
+    pub same : object-count table ≡ object-count first
+    pub values : (o : ℕ) → value-of table o ≡ Option·getD (lookup (drop i (listed f n)) o) (value-of first o)
 
   pub laid-none : Laid first n
-  laid-none = record { within = omega arith; same = refl; values = λ o. rw (drop-end f n); bounds = λ o. refl }
+  laid-none = record { within = omega arith; same = refl; values = λ o. rw (drop-end f n) }
 
   pub in-table : every (sound (object-count first)) (listed f n) ≡ true → (i : ℕ) → i < n → f i .object < object-count first
   in-table e i l =
       let h = every-at (sound (object-count first)) f n i l e in
       ltb-true _ _ (both _ (fits (f i .value)) h .0)
 
-  pub laid-one : (table : List ℤ) (i : ℕ) → i < n → f i .object < object-count first → Laid table (suc i) → Laid (set table (f i .object * 3) (f i .value)) i
+  pub laid-one : (table : List ℤ) (i : ℕ) → i < n → f i .object < object-count first → Laid table (suc i) → Laid (set table (f i .object) (f i .value)) i
   laid-one table i l h k =
       record {
         within = omega arith;
-        same = length-set table at-value (f i .value) ∙ k .same;
+        same = length-set table (f i .object) (f i .value) ∙ k .same;
         values = λ o. rw (drop-next f n i l) (at o (eqb (f i .object) o) refl);
-        bounds = λ o j. record { lower = elsewhere (o * 3 + 1) (λ q. omega arith) (ap (λ (b : Bounds). b .lower) (k .bounds o)) j; upper = elsewhere (o * 3 + 2) (λ q. omega arith) (ap (λ (b : Bounds). b .upper) (k .bounds o)) j };
       }
     where
-      at-value : ℕ
-      at-value = f i .object * 3
-
-      elsewhere : (c : ℕ) → c ≢ at-value → {z : ℤ} → getD table c (pos 0) ≡ z → getD (set table at-value (f i .value)) c (pos 0) ≡ z
-      elsewhere c q e = getD-set-other table at-value c (f i .value) (pos 0) q ∙ e
-
       at : (o : ℕ) (t : Bool) → eqb (f i .object) o ≡ t
-          → value-of (set table at-value (f i .value)) o ≡ Option·getD (cond t (some (f i .value)) (lookup (drop (suc i) (listed f n)) o)) (value-of first o)
+          → value-of (set table (f i .object) (f i .value)) o ≡ Option·getD (cond t (some (f i .value)) (lookup (drop (suc i) (listed f n)) o)) (value-of first o)
       at o true e =
           let s = k .same in
-          rw (← (eqb-true (f i .object) o e)) (getD-set-same table at-value (f i .value) (pos 0) (omega arith))
-      at o false e = elsewhere (o * 3) (λ q. eqb-false (f i .object) o e (omega arith)) (k .values o)
+          rw (← (eqb-true (f i .object) o e)) (getD-set-same table (f i .object) (f i .value) (pos 0) (omega arith))
+      at o false e =
+          getD-set-other table (f i .object) o (f i .value) (pos 0) (λ q. eqb-false (f i .object) o e (sym q)) ∙ k .values o
 
-  pub laid-all : (table : List ℤ) → Laid table 0 → table-of table ≡ over (listed f n) (table-of first)
-  laid-all table k j = record { look = fun-ext (k .values) j; allow = λ o. inside (k .bounds o j) }
+  pub laid-all : (table : List ℤ) → Laid table 0 → (allow : ℕ → ℤ → Bool) → table-of table allow ≡ over (listed f n) (table-of first allow)
+  laid-all table k allow j = record { look = fun-ext (k .values) j; allow = allow }

@@ -1,8 +1,9 @@
 // How far a run of a transaction's body has come, and what its sets say beside a table (document 01, "A job's body"). The definitions and laws of
 // runs are in specs/. Registers and both sets stand in lent arrays; four counts go by value.
 ghost use mathlib.Core.Path.{_≡_};
-ghost use mathlib.Core.Bool.{true};
-ghost use Prim.Native.Nat.{_<_, _≤_};
+ghost use mathlib.Core.Bool.{Bool, true};
+ghost use Prim.Native.Nat.{ℕ, _<_, _≤_};
+ghost use lib.IntN.{ℤ};
 ghost use lib.ListN.{length};
 ghost use Rattle.operation.specs.Body.{operations};
 ghost use Rattle.execution.specs.Run.{table-of, object-count, is-none, due-at, over};
@@ -18,12 +19,11 @@ pub struct Counts {
     pub writes: usize,
 }
 
-// A lent table has so many numbers an object: its value, then its lower and its upper bound.
-pub const ROW: usize = 3;
-// where they stand in it
-pub const LOWER: usize = 1;
-
-pub const UPPER: usize = 2;
+// Where the bounds of the objects stand in lent cells: object 0's lower bound at cell `first`, its upper one behind it, each next object's `stride` cells on.
+pub struct BoundsAt {
+    pub first: usize,
+    pub stride: usize,
+}
 
 // Whether a run of this body has ended: stopped early, or past the last operation. Of the body its first byte alone is looked at.
 pub fn is_finished(body: &[u8], counter: usize, outcome: usize) -> bool
@@ -36,16 +36,17 @@ pub fn is_finished(body: &[u8], counter: usize, outcome: usize) -> bool
     operation::small(body[0]) <= counter
 }
 
-// Lays a write set over a table, the last entry first, so that the first entry of an object counts. The bounds stay.
+// Lays a write set over a table, the last entry first, so that the first entry of an object counts. Whatever each object may take stays.
 pub fn overlay<'a>(table: &mut [i64], wo: &'a [usize; 16], wv: &'a [i64; 16], count: usize)
     requires { ⌜ (count ≤ capacity) × (every (sound (object-count (now table))) (entries count (now wo) (now wv)) ≡ true) ⌝ }
-    ensures table { λ _. ⌜ table-of (now (table .exit)) ≡ over (entries count (now (wo .entry)) (now (wv .entry))) (table-of (now (table .entry))) ⌝ }
+    ensures table { λ _. ⌜ ((allow : ℕ → ℤ → Bool) → table-of (now (table .exit)) allow
+        ≡ over (entries count (now (wo .entry)) (now (wv .entry))) (table-of (now (table .entry)) allow)) ⌝ }
     ensures size { λ _. ⌜ object-count (now (table .exit)) ≡ object-count (now (table .entry)) ⌝ }
 {
     let mut i = count;
     while 0 < i {
         i -= 1;
-        let at = wo[i] * ROW;
-        table[at] = wv[i];
+        let o = wo[i];
+        table[o] = wv[i];
     }
 }

@@ -1,13 +1,18 @@
 // What an operation does to a run: registers and program counter; a load by write set, read set and table, recorded in the read set; a store into
 // the write set, where the object's bounds allow the value.
 use arith::Checked;
+use execution::BoundsAt;
 use execution::Counts;
 ghost use mathlib.Core.Path.{_≡_};
 ghost use mathlib.Core.List.{List};
-ghost use Prim.Native.Nat.{ℕ, _≤_, _<_};
+ghost use mathlib.Core.Bool.{Bool};
+ghost use Prim.Native.Nat.{ℕ, _+_, _*_, _≤_, _<_};
 ghost use lib.IntN.{ℤ};
-ghost use lib.ListN.{set};
+ghost use lib.ListN.{length, set};
+ghost use Rattle.cells.specs.Cells.{cells};
+ghost use Rattle.execution.specs.Bounds.{inside};
 ghost use Rattle.execution.specs.Run.{Table, table-of, object-count, apply, get as get-move, put as put-move, register};
+ghost use Rattle.execution.specs.LentTable.{bounds-cell, bounds-at, allowed};
 ghost use Rattle.execution.specs.Arrays.{capacity, run-of-arrays, Room, Bounded};
 ghost use Rattle.execution_effects.specs.Effects.{advanced, stopped, settled, Found};
 
@@ -88,9 +93,9 @@ pub fn load<'a>(
     o: usize,
 ) -> Counts
     requires { ⌜ Bounded c × (c .counter < capacity) × (r < 4) × (o < object-count (now table)) × Room (now ro) (now rv) ⌝ }
-    ensures run { λ t. ⌜ run-of-arrays t (now (registers .exit)) (now (ro .exit)) (now (rv .exit)) (now (wo .entry)) (now (wv .entry))
-        ≡ apply (table-of (now (table .entry))) (get-move r o)
-        (run-of-arrays c (now (registers .entry)) (now (ro .entry)) (now (rv .entry)) (now (wo .entry)) (now (wv .entry))) ⌝ }
+    ensures run { λ t. ⌜ ((allow : ℕ → ℤ → Bool) → run-of-arrays t (now (registers .exit)) (now (ro .exit)) (now (rv .exit)) (now (wo .entry)) (now (wv .entry))
+        ≡ apply (table-of (now (table .entry)) allow) (get-move r o)
+        (run-of-arrays c (now (registers .entry)) (now (ro .entry)) (now (rv .entry)) (now (wo .entry)) (now (wv .entry)))) ⌝ }
     ensures bounded { λ t. ⌜ Bounded t ⌝ }
     ensures room { λ _. ⌜ Room (now (ro .exit)) (now (rv .exit)) ⌝ }
 {
@@ -104,7 +109,7 @@ pub fn load<'a>(
     if k < reads {
         return assign(registers, c, r, rv[k]);
     }
-    let value = table[o * execution::ROW];
+    let value = table[o];
     ro[reads] = o;
     rv[reads] = value;
     registers[r] = value;
@@ -117,19 +122,20 @@ pub fn load<'a>(
 }
 
 // Whether the object may take this value: a value at a bound is allowed. No branch: a value may lie outside at either end.
-fn allows(table: &[i64], o: usize, v: i64) -> bool
-    requires { ⌜ o < object-count (now table) ⌝ }
-    ensures { λ b. ⌜ b ≡ table-of (now (table .entry)) .allow o v ⌝ }
+fn allows(records: &[u8], bounds: BoundsAt, o: usize, v: i64) -> bool
+    requires { ⌜ (bounds-cell bounds o + 2) * 8 ≤ length (now records) ⌝ }
+    ensures { λ b. ⌜ b ≡ inside (bounds-at bounds (cells (now (records .entry))) o) v ⌝ }
 {
-    let at = o * execution::ROW;
-    let lower = table[at + execution::LOWER];
-    let upper = table[at + execution::UPPER];
+    let at = bounds.first + o * bounds.stride;
+    let lower = cells::get_signed(records, at);
+    let upper = cells::get_signed(records, at + 1);
     (lower <= v) & (v <= upper)
 }
 
 // A value outside the object's bounds stops the run. An object stored again keeps its place and takes the new value.
 pub fn store(
-    table: &[i64],
+    records: &[u8],
+    bounds: BoundsAt,
     registers: &[i64; 4],
     wo: &mut [usize; 16],
     wv: &mut [i64; 16],
@@ -137,15 +143,16 @@ pub fn store(
     r: usize,
     o: usize,
 ) -> Counts
-    requires { ⌜ Bounded c × (c .counter < capacity) × (r < 4) × (o < object-count (now table)) × Room (now wo) (now wv) ⌝ }
-    ensures run { λ t. ⌜ ((ro : List ℕ) (rv : List ℤ) → run-of-arrays t (now (registers .entry)) ro rv (now (wo .exit)) (now (wv .exit))
-        ≡ apply (table-of (now (table .entry))) (put-move o (register (now (registers .entry)) r))
+    requires { ⌜ Bounded c × (c .counter < capacity) × (r < 4) × ((bounds-cell bounds o + 2) * 8 ≤ length (now records)) × Room (now wo) (now wv) ⌝ }
+    ensures run { λ t. ⌜ ((n : ℕ) (vs : List ℤ) (ro : List ℕ) (rv : List ℤ) → o < n
+        → run-of-arrays t (now (registers .entry)) ro rv (now (wo .exit)) (now (wv .exit))
+        ≡ apply (table-of vs (allowed n bounds (cells (now (records .entry))))) (put-move o (register (now (registers .entry)) r))
         (run-of-arrays c (now (registers .entry)) ro rv (now (wo .entry)) (now (wv .entry)))) ⌝ }
     ensures bounded { λ t. ⌜ Bounded t ⌝ }
     ensures room { λ _. ⌜ Room (now (wo .exit)) (now (wv .exit)) ⌝ }
 {
     let v = registers[r];
-    if !allows(table, o, v) {
+    if !allows(records, bounds, o, v) {
         return stop(c, 3);
     }
     let n = c.writes;

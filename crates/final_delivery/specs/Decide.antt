@@ -17,8 +17,10 @@ use Rattle.cells.specs.CellLaws.{cells-drop}
 use Rattle.operation.specs.Body.{listed, size, operations, is-well-formed, body-length}
 use Rattle.operation.specs.BodyLaws.{Formed, formed, well-formed}
 use Rattle.execution.specs.declared.Counts.{Counts}
+use Rattle.execution.specs.declared.BoundsAt.{BoundsAt}
 use Rattle.execution.specs.Entries.{entry}
-use Rattle.execution.specs.Run.{Table, table-of, object-count, Run, is-none, due-at, whole, matches}
+use Rattle.execution.specs.Run.{Table, object-count, Run, is-none, due-at, whole, matches}
+use Rattle.execution.specs.LentTable.{lent-table, BoundsWithin}
 use Rattle.execution.specs.Arrays.{capacity, entries}
 use Rattle.execution.specs.RunShape.{Shaped, every, sound}
 use Rattle.execution_interpreter.specs.Executes.{InArrays}
@@ -112,21 +114,33 @@ module _ {l : Limits} {b body : List ℕ} (s : Sane l) (m : Local l) (p : Rerunn
   rerun-laid =
       record { whole = holds-long l s b (p .replica) (p .holds); few = omega (arith, get-size l s b (p .replica) (p .holds), p .holds .fits .objects .0); room = m .objects }
 
-  -- the rows of the first n objects, as they were gathered
-  module _ {n : ℕ} {rs : List ℤ} (e : rows.Committed l (cells b) n rs) where
-    pub rows-few : n * 3 ≤ length rs
-    rows-few = rows.committed-room l s b (p .replica) (p .holds) (p .versions) e
+  -- the values of the first n objects, as they were gathered
+  module _ {n : ℕ} {vs : List ℤ} (e : rows.Committed l (cells b) n vs) where
+    pub values-few : n ≤ length vs
+    values-few = rows.committed-room l s b (p .replica) (p .holds) (p .versions) e
 
-    pub rows-lent : n * 3 ≡ length (take (n * 3) rs)
-    rows-lent = sym (length-take-le (n * 3) rs rows-few)
+    pub values-lent : n ≡ length (take n vs)
+    values-lent = sym (length-take-le n vs values-few)
 
-    pub rows-formed : is-well-formed capacity (object-count (take (n * 3) rs)) body ≡ true
-    rows-formed = ap (λ (k : ℕ). is-well-formed capacity k body) (rows.committed-count l s b (p .replica) (p .holds) (p .versions) e) ∙ p .formed
+    as-many : object-count (take n vs) ≡ length (p .replica .objects)
+    as-many = rows.committed-count l s b (p .replica) (p .holds) (p .versions) e
 
-    pub rows-ran : (t : Counts) (ro : List ℕ) (rv : List ℤ) (wo : List ℕ) (wv : List ℤ) → InArrays (whole (table-of (take (n * 3) rs)) (operations body)) t ro rv wo wv → Ran (committed-table (p .replica)) body t wo wv
-    rows-ran t ro rv wo wv h =
-        let k = h ∙ ap (λ (T : Table). whole T (operations body)) (rows.committed-back l s b (p .replica) (p .holds) (p .versions) e) in
-        record { outcome = ap (λ (q : Run). q .outcome) k; writes = ap (λ (q : Run). q .writes) k }
+    pub values-formed : is-well-formed capacity (object-count (take n vs)) body ≡ true
+    values-formed = ap (λ (k : ℕ). is-well-formed capacity k body) as-many ∙ p .formed
+
+    -- their bounds stand at q
+    module _ {q : BoundsAt} (eq : q ≡ rows.bounds-place l) where
+      pub bounds-there : BoundsWithin q (object-count (take n vs)) (length b)
+      bounds-there =
+          subst (λ (x : BoundsAt). BoundsWithin x (object-count (take n vs)) (length b)) (sym eq)
+          (subst (λ (k : ℕ). BoundsWithin (rows.bounds-place l) k (length b)) (sym as-many) (rows.bounds-within l s b (p .replica) (p .holds)))
+
+      pub values-ran : (t : Counts) (ro : List ℕ) (rv : List ℤ) (wo : List ℕ) (wv : List ℤ)
+          → InArrays (whole (lent-table (take n vs) q (cells b)) (operations body)) t ro rv wo wv → Ran (committed-table (p .replica)) body t wo wv
+      values-ran t ro rv wo wv h =
+          let T = ap (λ (x : BoundsAt). lent-table (take n vs) x (cells b)) eq ∙ rows.committed-lent l s b (p .replica) (p .holds) (p .versions) e in
+          let k = h ∙ ap (λ (x : Table). whole x (operations body)) T in
+          record { outcome = ap (λ (q : Run). q .outcome) k; writes = ap (λ (q : Run). q .writes) k }
 
 -- ---- both, of transaction i
 

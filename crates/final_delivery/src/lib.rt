@@ -69,7 +69,8 @@ fn is_validated(records: &[u8], at: usize, body: &[u8], t: Counts, places: &[usi
     }
 }
 
-// The whole run of this body on the committed state, which is gathered for it. Its write set comes in two arrays.
+// The whole run of this body on the committed state: its values are gathered for it, its bounds are read where they stand. Its write set comes in
+// two arrays.
 fn run_again(
     records: &[u8],
     l: Limits,
@@ -81,11 +82,12 @@ fn run_again(
     requires { ⌜ Rerunning l (now records) (now body) × Room (now wo) (now wv) ⌝ }
     ensures { λ t. ⌜ Reruns l (now (records .entry)) (now (body .entry)) t (now (wo .exit)) (now (wv .exit)) ⌝ }
 {
-    let mut table: [i64; 384] = [0; 384];
-    let n = rows::committed_rows(records, l, &mut table);
+    let mut table: [i64; 128] = [0; 128];
+    let n = rows::committed_values(records, l, &mut table);
+    let bounds = rows::bounds_at(l);
     let mut ro: [usize; 16] = [0; 16];
     let mut rv: [i64; 16] = [0; 16];
-    execution_interpreter::run(&table[..n * execution::ROW], body, &mut ro, &mut rv, wo, wv)
+    execution_interpreter::run(&table[..n], records, bounds, body, &mut ro, &mut rv, wo, wv)
 }
 
 // The early results of the pending transaction at this position, if they are validated on the committed state, whose places are lent, else its whole

@@ -1,11 +1,13 @@
-// One row: its run read into local arrays and written back, once each; its writes laid over a table as they stand. And the committed state as a
-// local table, with the bounds.
+// One row: its run read into local arrays and written back, once each; its writes laid over a table as they stand. And the committed state: its
+// values as a local table, and where its bounds stand.
+use execution::BoundsAt;
 use execution::Counts;
 use model::Limits;
 ghost use mathlib.Core.Path.{_≡_};
-ghost use mathlib.Core.Bool.{true};
+ghost use mathlib.Core.Bool.{Bool, true};
 ghost use mathlib.Core.List.{map};
-ghost use Prim.Native.Nat.{_+_, _*_, _≤_};
+ghost use Prim.Native.Nat.{ℕ, _+_, _*_, _≤_};
+ghost use lib.IntN.{ℤ};
 ghost use lib.ListN.{length};
 ghost use mir.Syntax.{w64};
 ghost use mir.Val.{ofZ};
@@ -16,7 +18,7 @@ ghost use Rattle.execution.specs.RunShape.{every, sound};
 ghost use Rattle.execution.specs.Arrays.{capacity, entries, Room};
 ghost use Rattle.layout.specs.Offsets.{Sane, register-at, reads-at, entry-at};
 ghost use Rattle.rows.specs.RowRun.{entries-in, registers-in, run-in, Readable, Loaded, front, entry-cells, Behind, Storable, Stored};
-ghost use Rattle.rows.specs.Committed.{Laid, Committed};
+ghost use Rattle.rows.specs.Committed.{Laid, Committed, bounds-place};
 
 // The registers of a row. The loop fills the array: the places passed have their cells' values.
 fn load_registers(row: &[u8], registers: &mut [i64; 4])
@@ -79,7 +81,8 @@ pub fn load_row(
 pub fn overlay_writes(row: &[u8], table: &mut [i64])
     requires { ⌜ Readable (now row) ⌝ }
     requires { ⌜ every (sound (object-count (now table))) (run-in (cells (now row)) .writes) ≡ true ⌝ }
-    ensures table { λ _. ⌜ table-of (now (table .exit)) ≡ over (run-in (cells (now (row .entry))) .writes) (table-of (now (table .entry))) ⌝ }
+    ensures table { λ _. ⌜ ((allow : ℕ → ℤ → Bool) → table-of (now (table .exit)) allow
+        ≡ over (run-in (cells (now (row .entry))) .writes) (table-of (now (table .entry)) allow)) ⌝ }
     ensures size { λ _. ⌜ object-count (now (table .exit)) ≡ object-count (now (table .entry)) ⌝ }
 {
     let reads = cells::get(row, layout::ROW_READS) as usize;
@@ -89,35 +92,36 @@ pub fn overlay_writes(row: &[u8], table: &mut [i64])
         i -= 1;
         let at = layout::ROW_FIRST_ENTRY + (reads + i) * layout::ENTRY_WIDTH;
         let o = cells::get(row, at) as usize;
-        table[o * execution::ROW] = cells::get_signed(row, at + 1);
+        table[o] = cells::get_signed(row, at + 1);
     }
 }
 
-// The committed state: of each object the value of its newest version and its bounds; the objects passed have theirs. The number of objects.
-// The bounds stand side by side in the area and in the table: both are read, then both stored, so that LLVM moves them as one pair. At the standard
-// limits an object is one move of 8 bytes and one of 16, with no test of an index (seen by objdump of a static library).
-pub fn committed_rows(records: &[u8], l: Limits, table: &mut [i64; 384]) -> usize
-    requires { ⌜ Sane l × Laid l (now records) × (length (now table) ≡ 384) ⌝ }
+// The committed state: of each object the value of its newest version; the objects passed have theirs. The number of objects.
+pub fn committed_values(records: &[u8], l: Limits, table: &mut [i64; 128]) -> usize
+    requires { ⌜ Sane l × Laid l (now records) × (length (now table) ≡ 128) ⌝ }
     ensures { λ n. ⌜ Committed l (cells (now (records .entry))) n (now (table .exit)) ⌝ }
 {
     let n = cells::get(records, layout::size_at(l)) as usize;
     let width = layout::object_width(l);
-    let bounds = layout::bounds_at(l);
     let mut at = layout::object_at(l, 0);
     let mut i = 0;
     while i < n {
-        let value = cells::get_signed(records, at + layout::NEWEST_VALUE);
-        let pair = at + bounds;
-        let lower = cells::get_signed(records, pair);
-        let upper = cells::get_signed(records, pair + 1);
-        let row = i * execution::ROW;
-        table[row] = value;
-        table[row + execution::LOWER] = lower;
-        table[row + execution::UPPER] = upper;
+        table[i] = cells::get_signed(records, at + layout::NEWEST_VALUE);
         at += width;
         i += 1;
     }
     n
+}
+
+// Where the bounds of the objects stand in the record area.
+pub fn bounds_at(l: Limits) -> BoundsAt
+    requires { ⌜ Sane l ⌝ }
+    ensures { λ p. ⌜ p ≡ bounds-place l ⌝ }
+{
+    BoundsAt {
+        first: layout::object_at(l, 0) + layout::bounds_at(l),
+        stride: layout::object_width(l),
+    }
 }
 
 // The registers into a row, one behind the other.

@@ -93,7 +93,7 @@ module _ {l : Limits} {records bodies : List ℕ} (k : Asked l records bodies) (
     some-version =
         all-implies (VersionsShape (u .timestamp) (opens (u .readers))) (λ (x : List Version). 0 < length x) (λ x h. h .least) (u .objects) (shape .versions)
 
-    pub begun : Begun l records bodies (take (n * 3) vs) c
+    pub begun : Begun l records bodies (take n vs) c
     begun =
         record {
           sane = s;

@@ -1,5 +1,5 @@
 -- The two areas as the code is lent them: parts, offsets, and the loop by these. Assumes nothing.
-use mathlib.Core.Path.{_≡_, refl, ap, ap₂, _∙_}
+use mathlib.Core.Path.{_≡_, refl, sym, ap, ap₂, _∙_, subst}
 use mathlib.Core.Bool.{true, false}
 use mathlib.Core.List.{List}
 use Prim.Native.Nat.{ℕ, _+_, _-_, _*_, _≤_, _<_}
@@ -10,7 +10,9 @@ use lib.ListN.{length, getD}
 use borrow.Rule.Slice.PartMut.{midOf, putMid}
 use Rattle.cells.specs.Cells.{cells, uncells, Below}
 use Rattle.operation.specs.Body.{size, body-length}
-use Rattle.execution.specs.Run.{table-of, object-count}
+use Rattle.execution.specs.declared.BoundsAt.{BoundsAt}
+use Rattle.execution.specs.Run.{object-count}
+use Rattle.execution.specs.LentTable.{allowed, BoundsWithin}
 use Rattle.execution.specs.Arrays.{capacity}
 use Rattle.model.specs.declared.Limits.{Limits}
 use Rattle.model.specs.Calls.{most-work}
@@ -24,9 +26,11 @@ use Rattle.layout.specs.Reading.{get-pending}
 use Rattle.layout.specs.Bodies.{body-part, body-size, body-span}
 use Rattle.layout.specs.Fit.{fit, fit-holds, fit-bodies, fit-shape}
 use Rattle.layout.specs.Printable.{few-pending}
+use Rattle.rows.specs.Committed.{bounds-place, allowed-back, bounds-within}
 use Rattle.speculative_turn.specs.declared.Advanced.{Advanced}
-use Rattle.speculative_turn.specs.Advance.{Ready, Leaves}
-use Rattle.speculative_execution.specs.Passing.{nobody, formed-at, Going, Worked, going-first, going-last, lent-row, turn-ready, turn-most, turn-next, turn-last}
+use Rattle.speculative_turn.specs.Advance.{Allow, Ready, Leaves}
+use Rattle.speculative_turn.specs.LentRow.{allow-in, ReadyAt, LeavesAt}
+use Rattle.speculative_execution.specs.Passing.{nobody, formed-at, bounded-by, Going, Worked, going-first, going-last, lent-row, turn-ready, turn-most, turn-next, turn-last}
 
 -- areas that passed the shape check, beside the committed table and a budget
 pub record Begun (l : Limits) (records bodies : List ℕ) (vs : List ℤ) (budget : ℕ) : Type 0 where
@@ -34,7 +38,7 @@ pub record Begun (l : Limits) (records bodies : List ℕ) (vs : List ℤ) (budge
   pub few : l .operations ≤ capacity
   pub fit : fit l (records, bodies) ≡ true
   pub allowed : budget ≤ most-work
-  pub table : table-of vs ≡ committed-table (parse l (records, bodies))
+  pub table : bounded-by (parse l (records, bodies)) vs ≡ committed-table (parse l (records, bodies))
   pub size : object-count vs ≡ length (parse l (records, bodies) .objects)
 
 module _ {l : Limits} (s : Sane l) (records bodies : List ℕ) (f : fit l (records, bodies) ≡ true) where
@@ -107,21 +111,32 @@ module _ {l : Limits} {records bodies : List ℕ} {vs : List ℤ} {budget : ℕ}
           ∙ ap (λ (x : ℕ). midOf x (x + body-length (getD bodies x 0) - x) bodies) ea
           ∙ lent-body (g .sane) records bodies (g .fit) b i h (getD bodies (body-at l i) 0) refl
 
-      pub lent-ready : Ready row-bytes body-bytes ts left
-      lent-ready = turn-ready (g .sane) (g .few) shape budget (g .allowed) k h is-row is-body
+      -- the bounds in the area, which has only rows changed, are the committed ones
+      allow-here : {p : BoundsAt} → p ≡ bounds-place l → allow-in here p ts ≡ committed-table u₀ .allow
+      allow-here ep =
+          ap₂ (λ (n : ℕ) (q : BoundsAt). allowed n q (cells here)) (k .size) ep ∙ allowed-back l (g .sane) here _ (k .holds)
 
-      module _ {a : Advanced} {ys : List ℕ} {ws : List ℤ} (lv : Leaves row-bytes body-bytes ts left a ys ws) where
-        abbrev back : List ℕ
-        back = putMid (r * 8) (e * 8 - r * 8) here ys
+      pub lent-ready : {p : BoundsAt} → p ≡ bounds-place l → e * 8 ≤ length here → ReadyAt here p (r * 8) (e * 8) body-bytes ts left
+      lent-ready {p} ep inside =
+          record {
+            order = omega (arith, er, ee);
+            inside = inside;
+            bounded = subst (λ (n : ℕ). BoundsWithin p n (length here)) (sym (k .size)) (subst (λ (q : BoundsAt). BoundsWithin q (length (u₀ .objects)) (length here)) (sym ep) (bounds-within l (g .sane) here _ (k .holds)));
+            ready = subst (λ (A : Allow). Ready row-bytes body-bytes ts A left) (sym (allow-here ep)) (turn-ready (g .sane) (g .few) shape budget (g .allowed) k h is-row is-body);
+          }
 
-        is-back : back ≡ putMid (row-at l i * 8) (row-width l * 8) here ys
-        is-back = ap₂ (λ (x y : ℕ). putMid (x * 8) y here ys) er width
+      module _ {p : BoundsAt} (ep : p ≡ bounds-place l) {a : Advanced} {zs : List ℕ} {ws : List ℤ} (at-area : LeavesAt here p (r * 8) (e * 8) body-bytes ts left a zs ws) where
+        lv : Leaves row-bytes body-bytes ts (committed-table u₀ .allow) left a (at-area .new-row) ws
+        lv = subst (λ (A : Allow). Leaves row-bytes body-bytes ts A left a (at-area .new-row) ws) (allow-here ep) (at-area .leaves)
+
+        is-back : zs ≡ putMid (row-at l i * 8) (row-width l * 8) here (at-area .new-row)
+        is-back = at-area .back ∙ ap₂ (λ (x y : ℕ). putMid (x * 8) y here (at-area .new-row)) er width
 
         pub lent-most : a .used ≤ left
         lent-most = turn-most (g .sane) (g .few) shape budget (g .allowed) k h is-row is-body lv
 
-        pub lent-next : a .finished ≡ true → object-count ws ≡ object-count ts → Going l u₀ budget back ws (i + 1) (left - a .used)
+        pub lent-next : a .finished ≡ true → object-count ws ≡ object-count ts → Going l u₀ budget zs ws (i + 1) (left - a .used)
         lent-next f n = turn-next (g .sane) (g .few) shape budget (g .allowed) k h is-row is-body lv f is-back n
 
-        pub lent-last : a .finished ≡ false → Worked l u₀ budget back (budget - (left - a .used)) i
+        pub lent-last : a .finished ≡ false → Worked l u₀ budget zs (budget - (left - a .used)) i
         lent-last f = turn-last (g .sane) (g .few) shape budget (g .allowed) k h is-row is-body lv f is-back

@@ -30,6 +30,7 @@ fn execute_pending(
     ensures { λ r. ⌜ Worked l (parse l (now (records .entry), now (bodies .entry))) budget (now (records .exit)) (r .operations) (r .finished) ⌝ }
 {
     let pending = cells::get(records, layout::pending_at(l)) as usize;
+    let bounds = rows::bounds_at(l);
     let mut left = budget;
     let mut i = 0;
     while i < pending {
@@ -37,7 +38,15 @@ fn execute_pending(
         let next = layout::row_at(l, i + 1) * 8;
         let at = layout::body_at(l, i);
         let end = at + operation::body_length(operation::small(bodies[at]));
-        let a = speculative_turn::advance(&mut records[row..next], &bodies[at..end], table, left);
+        let a = speculative_turn::advance(
+            records,
+            bounds,
+            row,
+            next,
+            &bodies[at..end],
+            table,
+            left,
+        );
         left -= a.used;
         if !a.finished {
             return Totals {
@@ -65,8 +74,8 @@ pub fn execute(records: &mut [u8], bodies: &[u8], l: Limits, count: u32) -> Exec
         return Execution::Refused(14);
     }
     let budget = count as usize;
-    let mut table: [i64; 384] = [0; 384];
-    let n = rows::committed_rows(records, l, &mut table);
-    let t = execute_pending(records, bodies, l, &mut table[..n * execution::ROW], budget);
+    let mut table: [i64; 128] = [0; 128];
+    let n = rows::committed_values(records, l, &mut table);
+    let t = execute_pending(records, bodies, l, &mut table[..n], budget);
     Execution::Executed(t.operations as u32, t.finished as u32)
 }

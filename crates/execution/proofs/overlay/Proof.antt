@@ -1,6 +1,6 @@
 -- `overlay`: the loop's invariant is that the entries from i on are laid over the table.
-use mathlib.Core.Path.{_≡_, ap, subst}
-use Prim.Native.Nat.{ℕ, suc, _<_, _-_, _/_}
+use mathlib.Core.Path.{_≡_, subst}
+use Prim.Native.Nat.{suc, _<_, _-_}
 use native.Mathlib.Omega.{arith}
 use lib.ListN.{getD}
 use denote.Ref.{now}
@@ -23,11 +23,17 @@ loop-holds c = let a = c .args in laid-none (nth-entry (now (a .wo)) (now (a .wv
 sub-i : tie.Need-sub-i Inv-loop μ-loop
 sub-i c = omega arith
 
-mul-at : tie.Need-mul-at Inv-loop μ-loop
-mul-at c = omega arith
+mul-o : tie.Need-mul-o Inv-loop μ-loop
+mul-o c = omega arith
 
-element-copy-out-at : tie.Need-element-copy-out-at Inv-loop μ-loop
-element-copy-out-at c = omega arith
+element-copy-out-o : tie.Need-element-copy-out-o Inv-loop μ-loop
+element-copy-out-o c = omega arith
+
+mul-table : tie.Need-mul-table Inv-loop μ-loop
+mul-table c = omega arith
+
+element-copy-out-table : tie.Need-element-copy-out-table Inv-loop μ-loop
+element-copy-out-table c = omega arith
 
 -- the object of the entry at i - 1
 here : (c : tie.In-loop Inv-loop μ-loop) → (let l = c .before in let a = l .before .args in getD (now (a .wo)) (l .loop .i - 1) 0 < object-count (now (a .table)))
@@ -37,15 +43,6 @@ here c =
     let a = l .before .args in
     let w = l .loop .inv .within in
     in-table (nth-entry (now (a .wo)) (now (a .wv))) (a .count) (now (a .table)) (l .before .pre .1) (l .loop .i - 1) (omega arith)
-
-mul-at-2 : tie.Need-mul-at-2 Inv-loop μ-loop
-mul-at-2 c = omega (arith, here (c .before))
-
-mul-table : tie.Need-mul-table Inv-loop μ-loop
-mul-table c = omega arith
-
-element-copy-out-table : tie.Need-element-copy-out-table Inv-loop μ-loop
-element-copy-out-table c = omega arith
 
 mul-t11 : tie.Need-mul-t11 Inv-loop μ-loop
 mul-t11 c = omega (arith, here (c .before .before))
@@ -77,7 +74,7 @@ returns c =
     let a = l .before .args in
     let f = nth-entry (now (a .wo)) (now (a .wv)) in
     let none-left : l .loop .i ≡ 0 = omega arith in
-    (laid-all f (a .count) (now (a .table)) (l .loop .table) (subst (Laid f (a .count) (now (a .table)) (l .loop .table)) none-left (l .loop .inv)), ap (λ (k : ℕ). k / 3) (l .loop .inv .same))
+    (laid-all f (a .count) (now (a .table)) (l .loop .table) (subst (Laid f (a .count) (now (a .table)) (l .loop .table)) none-left (l .loop .inv)), l .loop .inv .same)
 
 pub overlay-spec : {M : Type 1} → statement M
 overlay-spec =
@@ -87,9 +84,8 @@ overlay-spec =
     μ-loop
     loop-holds
     sub-i
-    mul-at
-    element-copy-out-at
-    mul-at-2
+    mul-o
+    element-copy-out-o
     mul-table
     element-copy-out-table
     mul-t11

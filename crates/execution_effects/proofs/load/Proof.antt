@@ -27,7 +27,7 @@ returns c =
     let a = s .args in
     let p = s .pre in
     let f = c .before .before .before .before .find in (
-      load-own (table-of (now (a .table))) (a .c) (now (a .registers)) (now (a .ro)) (now (a .rv)) (now (a .wo)) (now (a .wv)) (a .r) (a .o) (f .result) (f .ensures) (c .assign .result) (c .assign .last .0) (c .before .before .before .if1 .taken) (c .assign .ensures .0) (rw (read-back (c .before .assign-arg2 .given)) at (c .assign .ensures .1)),
+      λ allow. load-own (table-of (now (a .table)) allow) (a .c) (now (a .registers)) (now (a .ro)) (now (a .rv)) (now (a .wo)) (now (a .wv)) (a .r) (a .o) (f .result) (f .ensures) (c .assign .result) (c .assign .last .0) (c .before .before .before .if1 .taken) (c .assign .ensures .0) (rw (read-back (c .before .assign-arg2 .given)) at (c .assign .ensures .1)),
       (bounded-advanced 0 (a .c) (c .assign .result) (c .assign .ensures .0) (p .0), p .4),
     )
 
@@ -50,15 +50,12 @@ returns-2 c =
     let p = s .pre in
     let f = c .before .before .before .before .before .before .before .find in
     let g = c .before .before .before .before .find2 in (
-      load-read (table-of (now (a .table))) (a .c) (now (a .registers)) (now (a .ro)) (now (a .rv)) (now (a .wo)) (now (a .wv)) (a .r) (a .o) (f .result) (f .ensures) (c .before .before .before .before .before .before .if1 .left) (g .result) (g .ensures) (c .assign2 .result) (c .assign2 .last .0) (c .before .before .before .if2 .taken) (c .assign2 .ensures .0) (rw (read-back (c .before .assign-arg4 .given)) at (c .assign2 .ensures .1)),
+      λ allow. load-read (table-of (now (a .table)) allow) (a .c) (now (a .registers)) (now (a .ro)) (now (a .rv)) (now (a .wo)) (now (a .wv)) (a .r) (a .o) (f .result) (f .ensures) (c .before .before .before .before .before .before .if1 .left) (g .result) (g .ensures) (c .assign2 .result) (c .assign2 .last .0) (c .before .before .before .if2 .taken) (c .assign2 .ensures .0) (rw (read-back (c .before .assign-arg4 .given)) at (c .assign2 .ensures .1)),
       (bounded-advanced 0 (a .c) (c .assign2 .result) (c .assign2 .ensures .0) (p .0), p .4),
     )
 
 mul-value : tie.Need-mul-value
 mul-value c = search needs
-
-mul-value-2 : tie.Need-mul-value-2
-mul-value-2 c = search needs
 
 shared-slice-copy-out-value : tie.Need-shared-slice-copy-out-value
 shared-slice-copy-out-value c = search needs
@@ -69,23 +66,23 @@ mul-ro c = search needs
 element-write-ro : tie.Need-element-write-ro
 element-write-ro c = search needs
 
-mul-value-3 : tie.Need-mul-value-3
-mul-value-3 c = search needs
+mul-value-2 : tie.Need-mul-value-2
+mul-value-2 c = search needs
 
 element-set-from-value : tie.Need-element-set-from-value
 element-set-from-value c = search needs
 
-mul-value-4 : tie.Need-mul-value-4
-mul-value-4 c = search needs
+mul-value-3 : tie.Need-mul-value-3
+mul-value-3 c = search needs
 
 element-set-from-value-2 : tie.Need-element-set-from-value-2
 element-set-from-value-2 c = search needs
 
-add-t28 : tie.Need-add-t28
-add-t28 c = search needs
-
 add-t27 : tie.Need-add-t27
 add-t27 c = search needs
+
+add-t36 : tie.Need-add-t36
+add-t36 c = search needs
 
 returns-3 : tie.Need-returns-3
 returns-3 c =
@@ -96,7 +93,7 @@ returns-3 c =
     let g = c .before .before .before .find2 in
     let k = p .0 .reads in
     let h = p .1 in (
-      rw (read-back (c .before .value .given)) (load-new (table-of (now (a .table))) (a .c) (now (a .registers)) (now (a .ro)) (now (a .rv)) (now (a .wo)) (now (a .wv)) (a .r) (a .o) (f .result) (f .ensures) (c .before .before .before .before .before .if1 .left) (g .result) (g .ensures) (c .before .before .if2 .left) (omega arith) (p .4)),
+      λ allow. rw (read-back (c .before .value .given)) (load-new (table-of (now (a .table)) allow) (a .c) (now (a .registers)) (now (a .ro)) (now (a .rv)) (now (a .wo)) (now (a .wv)) (a .r) (a .o) (f .result) (f .ensures) (c .before .before .before .before .before .if1 .left) (g .result) (g .ensures) (c .before .before .if2 .left) (omega arith) (p .4)),
       (record { reads = omega arith; writes = omega (arith, p .0 .writes) }, room-set (now (a .ro)) (now (a .rv)) (a .c .reads) (a .o) _ (p .4)),
     )
 
@@ -115,14 +112,13 @@ load-spec =
     assign-requires-2
     returns-2
     mul-value
-    mul-value-2
     shared-slice-copy-out-value
     mul-ro
     element-write-ro
-    mul-value-3
+    mul-value-2
     element-set-from-value
-    mul-value-4
+    mul-value-3
     element-set-from-value-2
-    add-t28
     add-t27
+    add-t36
     returns-3)

@@ -1,21 +1,27 @@
 -- `store`: each way out is a law of specs/OneOperation; a value read back from its bits is itself.
 use mathlib.Core.Path.{_≡_, sym, ap, _∙_}
 use mathlib.Core.Bool.{Bool, not, Bool·not-not}
+use Prim.Native.Nat.{ℕ, _<_}
 use native.Mathlib.Omega.{arith}
 use denote.Ref.{now}
 use borrow.Author.Needs.{needs}
 use Rattle.arith.specs.IntegerLaws.{read-back}
+use Rattle.cells.specs.Cells.{cells}
 use Rattle.execution.specs.Run.{table-of, register}
+use Rattle.execution.specs.LentTable.{allowed, allowed-at}
 use Rattle.execution.specs.Arrays.{room-set}
 use Rattle.execution_effects.specs.OneOperation.{bounded-advanced, bounded-stopped, store-outside, store-again, store-new}
 use Rattle.execution_effects.proofs.store.Statement.{statement}
 use Rattle.execution_effects.proofs.store.Tie as tie
 
 -- the test asks what the table asks of the register's value
-tested : (c : tie.After-allows) {t : Bool} → not (c .allows .result) ≡ t → (let a = c .before .before .args in table-of (now (a .table)) .allow (a .o) (register (now (a .registers)) (a .r)) ≡ not t)
-tested c e =
+tested : (c : tie.After-allows) {t : Bool} → not (c .allows .result) ≡ t
+    → (let a = c .before .before .before .args in (n : ℕ) → a .o < n → allowed n (a .bounds) (cells (now (a .records))) (a .o) (register (now (a .registers)) (a .r)) ≡ not t)
+tested c e n h =
+    let a = c .before .before .before .args in
     let same = rw (read-back (c .before .v .given)) at (c .allows .ensures) in
-    sym same ∙ sym (Bool·not-not (c .allows .result)) ∙ ap not e
+    allowed-at n (a .bounds) (cells (now (a .records))) (a .o) h (register (now (a .registers)) (a .r))
+    ∙ sym same ∙ sym (Bool·not-not (c .allows .result)) ∙ ap not e
 
 mul-v : tie.Need-mul-v
 mul-v c = search needs
@@ -31,11 +37,11 @@ stop-requires c κs = search needs
 
 returns : tie.Need-returns
 returns c =
-    let s = c .before .before .before .before in
+    let s = c .before .before .before .before .before in
     let a = s .args in
     let p = s .pre in
     let no-store = tested (c .before .before) (c .before .if1 .taken) in (
-      λ ro rv. store-outside (table-of (now (a .table))) (a .c) (now (a .registers)) ro rv (now (a .wo)) (now (a .wv)) (a .o) (register (now (a .registers)) (a .r)) (c .stop .result) no-store (c .stop .ensures),
+      λ n vs ro rv h. store-outside (table-of vs (allowed n (a .bounds) (cells (now (a .records))))) (a .c) (now (a .registers)) ro rv (now (a .wo)) (now (a .wv)) (a .o) (register (now (a .registers)) (a .r)) (c .stop .result) (no-store n h) (c .stop .ensures),
       (bounded-stopped 3 (a .c) (c .stop .result) (c .stop .ensures) (p .0), p .4),
     )
 
@@ -60,32 +66,32 @@ advance-requires c κs = search needs
 returns-2 : tie.Need-returns-2
 returns-2 c =
     let tests = c .before .before .before .before in
-    let s = tests .before .before .before in
+    let s = tests .before .before .before .before in
     let a = s .args in
     let p = s .pre in
     let f = c .before .before .find in
     let k = p .0 .writes in
     let h = p .1 in (
-      λ ro rv. rw (read-back (tests .before .before .v .given)) (store-again (table-of (now (a .table))) (a .c) (now (a .registers)) ro rv (now (a .wo)) (now (a .wv)) (a .o) (f .result) (register (now (a .registers)) (a .r)) (tested (tests .before) (tests .if1 .left)) (f .ensures) (omega arith) (p .4) (c .advance .result) (c .before .if2 .taken) (c .advance .ensures)),
+      λ n vs ro rv o-low. rw (read-back (tests .before .before .v .given)) (store-again (table-of vs (allowed n (a .bounds) (cells (now (a .records))))) (a .c) (now (a .registers)) ro rv (now (a .wo)) (now (a .wv)) (a .o) (f .result) (register (now (a .registers)) (a .r)) (tested (tests .before) (tests .if1 .left) n o-low) (f .ensures) (omega arith) (p .4) (c .advance .result) (c .before .if2 .taken) (c .advance .ensures)),
       (bounded-advanced 0 (a .c) (c .advance .result) (c .advance .ensures) (p .0), room-set (now (a .wo)) (now (a .wv)) (f .result) (a .o) _ (p .4)),
     )
 
-add-t11 : tie.Need-add-t11
-add-t11 c = search needs
+add-t12 : tie.Need-add-t12
+add-t12 c = search needs
 
-add-t22 : tie.Need-add-t22
-add-t22 c = search needs
+add-t23 : tie.Need-add-t23
+add-t23 c = search needs
 
 returns-3 : tie.Need-returns-3
 returns-3 c =
     let tests = c .before .before .before .before in
-    let s = tests .before .before .before in
+    let s = tests .before .before .before .before in
     let a = s .args in
     let p = s .pre in
     let f = c .before .before .find in
     let k = p .0 .writes in
     let h = p .1 in (
-      λ ro rv. rw (read-back (tests .before .before .v .given)) (store-new (table-of (now (a .table))) (a .c) (now (a .registers)) ro rv (now (a .wo)) (now (a .wv)) (a .o) (f .result) (register (now (a .registers)) (a .r)) (tested (tests .before) (tests .if1 .left)) (f .ensures) (omega arith) (p .4) (c .before .if2 .left)),
+      λ n vs ro rv o-low. rw (read-back (tests .before .before .v .given)) (store-new (table-of vs (allowed n (a .bounds) (cells (now (a .records))))) (a .c) (now (a .registers)) ro rv (now (a .wo)) (now (a .wv)) (a .o) (f .result) (register (now (a .registers)) (a .r)) (tested (tests .before) (tests .if1 .left) n o-low) (f .ensures) (omega arith) (p .4) (c .before .if2 .left)),
       (record { reads = omega (arith, p .0 .reads); writes = omega arith }, room-set (now (a .wo)) (now (a .wv)) (f .result) (a .o) _ (p .4)),
     )
 
@@ -105,6 +111,6 @@ store-spec =
     element-set-from-v
     advance-requires
     returns-2
-    add-t11
-    add-t22
+    add-t12
+    add-t23
     returns-3)

@@ -3,9 +3,11 @@ use mathlib.Core.Path.{_≡_}
 use Prim.Native.Nat.{ℕ, _+_, _-_, _≤_, _<_}
 use native.Mathlib.Omega.{arith}
 use denote.Ref.{now}
+use Rattle.cells.specs.Cells.{cells}
 use Rattle.operation.specs.Body.{size, operation-at, operations}
 use Rattle.operation.specs.BodyLaws.{Formed, formed, valid-at}
-use Rattle.execution.specs.Run.{Table, table-of, object-count, move, Run}
+use Rattle.execution.specs.Run.{Table, object-count, move, Run}
+use Rattle.execution.specs.LentTable.{lent-table}
 use Rattle.execution.specs.Arrays.{capacity, run-of-arrays, Lent}
 use Rattle.execution_interpreter.specs.Executes.{Executes}
 use Rattle.execution_interpreter.specs.Budget.{Going, going, at-end, spent, next, rewritten, lent-rewritten, apply-outcome, ended-stopped, ended-size, due-here, valid-more}
@@ -13,16 +15,16 @@ use Rattle.execution_interpreter.proofs.execute.Statement.{statement}
 use Rattle.execution_interpreter.proofs.execute.Tie as tie
 
 abbrev Inv-loop : tie.InvT-loop
-Inv-loop table body registers₀ ro₀ rv₀ wo₀ wv₀ budget size t₀ used₀ registers ro rv wo wv t used =
-    Going (table-of table) (operations body) budget (run-of-arrays t₀ registers₀ ro₀ rv₀ wo₀ wv₀) used (run-of-arrays t registers ro rv wo wv) × (t .outcome ≡ 0) × Lent t ro rv wo wv
+Inv-loop table records bounds body registers₀ ro₀ rv₀ wo₀ wv₀ budget size t₀ used₀ registers ro rv wo wv t used =
+    Going (lent-table table bounds (cells records)) (operations body) budget (run-of-arrays t₀ registers₀ ro₀ rv₀ wo₀ wv₀) used (run-of-arrays t registers ro rv wo wv) × (t .outcome ≡ 0) × Lent t ro rv wo wv
 
 abbrev μ-loop : tie.MeasureT-loop
-μ-loop table body registers₀ ro₀ rv₀ wo₀ wv₀ budget size t₀ used₀ registers ro rv wo wv t used = budget - used
+μ-loop table records bounds body registers₀ ro₀ rv₀ wo₀ wv₀ budget size t₀ used₀ registers ro rv wo wv t used = budget - used
 
 -- ---- the runs at entry, at the loop's head and after an operation
 
 abbrev entry : tie.At-loop Inv-loop μ-loop → tie.Start Inv-loop μ-loop
-entry l = l .before .before .before
+entry l = l .before .before .before .before
 
 abbrev first : tie.Start Inv-loop μ-loop → Run
 first s =
@@ -33,22 +35,23 @@ abbrev here : tie.At-loop Inv-loop μ-loop → Run
 here l = run-of-arrays (l .loop .t) (l .loop .registers) (l .loop .ro) (l .loop .rv) (l .loop .wo) (l .loop .wv)
 
 abbrev table : tie.Start Inv-loop μ-loop → Table
-table s = table-of (now (s .args .table))
+table s =
+    let a = s .args in lent-table (now (a .table)) (a .bounds) (cells (now (a .records)))
 
 body-formed : (s : tie.Start Inv-loop μ-loop) → Formed capacity (object-count (now (s .args .table))) (now (s .args .body))
 body-formed s = formed capacity (object-count (now (s .args .table))) (now (s .args .body)) (s .pre .0 .0)
 
 shared-slice-read-size : tie.Need-shared-slice-read-size Inv-loop μ-loop
-shared-slice-read-size c = omega (arith, body-formed (c .before .before) .whole)
+shared-slice-read-size c = omega (arith, body-formed (c .before .before .before) .whole)
 
 cast-size : tie.Need-cast-size Inv-loop μ-loop
-cast-size c = omega (arith, c .shared-slice-known2 .given 0)
+cast-size c = omega (arith, c .shared-slice-known3 .given 0)
 
 loop-holds : tie.Need-loop-holds Inv-loop μ-loop
 loop-holds c =
-    let s = c .before .before in
+    let s = c .before .before .before in
     let p = s .pre in
-    (going (table s) (operations (now (s .args .body))) (s .args .budget) (first s), p .0 .1, p .1)
+    (going (table s) (operations (now (s .args .body))) (s .args .budget) (first s), p .0 .1, p .1 .0)
 
 operation-at-requires : tie.Need-operation-at-requires Inv-loop μ-loop
 operation-at-requires c κs = (c .before .if1 .left, body-formed (entry (c .before .before)) .whole)
@@ -63,7 +66,7 @@ step-requires c κs =
     let n = object-count (now (s .args .table)) in
     let m = body-formed s .most in (
       l .loop .inv .2,
-      (omega arith, rw (c .before .before .before .before .before .operation-at .ensures) (valid-more n (size b - (i + 1)) capacity (operation-at b i) (omega arith) (valid-at capacity n b (s .pre .0 .0) i h))),
+      (omega arith, rw (c .before .before .before .before .before .operation-at .ensures) (valid-more n (size b - (i + 1)) capacity (operation-at b i) (omega arith) (valid-at capacity n b (s .pre .0 .0) i h)), s .pre .1 .1),
     )
 
 add-used : tie.Need-add-used Inv-loop μ-loop
@@ -71,7 +74,7 @@ add-used c = omega arith
 
 abbrev then : tie.After-step Inv-loop μ-loop → Run
 then c =
-    let x = c .step .last .1 .1 in
+    let x = c .step .last .1 .1 .1 .1 in
     run-of-arrays (c .step .result) (x .0) (x .1 .0) (x .1 .1 .0) (x .1 .1 .1 .0) (x .1 .1 .1 .1 .0)
 
 -- after an operation the invariant holds but for the outcome, which is one of four

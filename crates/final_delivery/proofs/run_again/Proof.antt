@@ -1,52 +1,58 @@
--- `final_delivery::run_again` meets its contract: the committed state is gathered, and the body is run on it.
+-- `final_delivery::run_again` meets its contract: the values of the committed state are gathered, and the body is run on them and the bounds.
 use mathlib.Core.Path.{refl}
-use native.Mathlib.Omega.{arith}
-use Rattle.final_delivery.specs.Decide.{rerun-laid, rows-few, rows-lent, rows-formed, rows-ran}
+use Rattle.final_delivery.specs.Decide.{rerun-laid, values-few, values-lent, values-formed, bounds-there, values-ran}
 use Rattle.final_delivery.proofs.run_again.Statement.{statement}
 use Rattle.final_delivery.proofs.run_again.Tie as tie
 
--- ---- waypoint: the rows are gathered
+-- ---- waypoints: the values are gathered, and it is known where the bounds stand
 
-abbrev start : tie.After-committed-rows → tie.Start
+abbrev start : tie.After-committed-values → tie.Start
 start k = k .before .before .before .before
 
-committed-rows-requires : tie.Need-committed-rows-requires
-committed-rows-requires c κs =
+abbrev gathered : tie.After-bounds-at → tie.After-committed-values
+gathered k = k .before
+
+committed-values-requires : tie.Need-committed-values-requires
+committed-values-requires c κs =
     let s = c .before .before .before in
     (s .pre .0 .0, rerun-laid (s .pre .0 .0) (s .pre .0 .1) (s .pre .1 .0), refl)
 
-mul-table : tie.Need-mul-table
-mul-table c = omega (arith, c .committed-rows .ensures .few)
+bounds-at-requires : tie.Need-bounds-at-requires
+bounds-at-requires c κs = start c .pre .0 .0
 
 array-share-prefix-table : tie.Need-array-share-prefix-table
 array-share-prefix-table c =
-    let s = start c in
-    rows-few (s .pre .0 .0) (s .pre .0 .1) (s .pre .1 .0) (c .committed-rows .ensures)
+    let g = gathered c in
+    let s = start g in
+    values-few (s .pre .0 .0) (s .pre .0 .1) (s .pre .1 .0) (g .committed-values .ensures)
 
 slice-aggregate-run : tie.Need-slice-aggregate-run
 slice-aggregate-run c =
-    let k = c .before in
-    let s = start k in
-    rows-lent (s .pre .0 .0) (s .pre .0 .1) (s .pre .1 .0) (k .committed-rows .ensures)
+    let g = gathered (c .before) in
+    let s = start g in
+    values-lent (s .pre .0 .0) (s .pre .0 .1) (s .pre .1 .0) (g .committed-values .ensures)
 
 run-requires : tie.Need-run-requires
 run-requires c κs =
     let k = c .before .before .before .before .before in
-    let s = start k in
-    (rows-formed (s .pre .0 .0) (s .pre .0 .1) (s .pre .1 .0) (k .committed-rows .ensures), record { objects = refl; values = refl }, s .pre .1 .1)
+    let g = gathered k in
+    let s = start g in
+    let v = g .committed-values .ensures in
+    ((values-formed (s .pre .0 .0) (s .pre .0 .1) (s .pre .1 .0) v, record { objects = refl; values = refl }, s .pre .1 .1), bounds-there (s .pre .0 .0) (s .pre .0 .1) (s .pre .1 .0) v (k .bounds-at .ensures))
 
 returns : tie.Need-returns
 returns c =
     let k = c .before .before .before .before .before .before in
-    let s = start k in
-    record { ran = λ p. rows-ran (s .pre .0 .0) (s .pre .0 .1) p (k .committed-rows .ensures) _ _ _ _ _ (c .run .ensures .0) }
+    let g = gathered k in
+    let s = start g in
+    record { ran = λ p. values-ran (s .pre .0 .0) (s .pre .0 .1) p (g .committed-values .ensures) (k .bounds-at .ensures) _ _ _ _ _ (c .run .ensures .0) }
 
 pub run-again-spec : {M : Type 1} → statement M
 run-again-spec =
     tie.close
     (tie.spec
-    committed-rows-requires
-    mul-table
+    committed-values-requires
+    bounds-at-requires
     array-share-prefix-table
     slice-aggregate-run
     run-requires

@@ -1,7 +1,7 @@
 -- `rows::overlay_writes`: the loop's invariant is that the row's writes from i on are laid over the table.
 use mathlib.Core.Path.{_≡_, sym, ap, ap₂, _∙_, subst}
 use mathlib.Core.List.{List}
-use Prim.Native.Nat.{ℕ, suc, _+_, _-_, _/_, _<_}
+use Prim.Native.Nat.{ℕ, suc, _+_, _-_, _<_}
 use native.Mathlib.Omega.{arith}
 use lib.ListN.{getD}
 use denote.Ref.{now}
@@ -100,9 +100,6 @@ get-signed-requires c κs = omega (arith, reach (c .before), c .before .before .
 mul-t11 : tie.Need-mul-t11 Inv-loop μ-loop
 mul-t11 c = omega (arith, c .before .get3 .ensures, object (c .before .before))
 
-mul-t14 : tie.Need-mul-t14 Inv-loop μ-loop
-mul-t14 c = omega (arith, c .before .get3 .ensures, object (c .before .before))
-
 slice-set-from-table : tie.Need-slice-set-from-table Inv-loop μ-loop
 slice-set-from-table c = omega (arith, c .before .get3 .ensures, object (c .before .before), c .before .before .before .loop .inv .same)
 
@@ -136,7 +133,7 @@ returns c =
     let s = l .before .before .before .before in
     let b = now (s .args .row) in
     let none-left : l .loop .i ≡ 0 = omega arith in
-    (laid-all (write b) (writes b) (now (s .args .table)) (l .loop .table) (subst (Laid (write b) (writes b) (now (s .args .table)) (l .loop .table)) none-left (l .loop .inv)), ap (λ (k : ℕ). k / 3) (l .loop .inv .same))
+    (laid-all (write b) (writes b) (now (s .args .table)) (l .loop .table) (subst (Laid (write b) (writes b) (now (s .args .table)) (l .loop .table)) none-left (l .loop .inv)), l .loop .inv .same)
 
 pub overlay-writes-spec : {M : Type 1} → statement M
 overlay-writes-spec =
@@ -156,7 +153,6 @@ overlay-writes-spec =
     add-get-signed
     get-signed-requires
     mul-t11
-    mul-t14
     slice-set-from-table
     loop-less
     loop-again

@@ -1,6 +1,6 @@
 -- `speculative_execution::execute`: refused above 4,096; else the answer is what the pass over the pending transactions comes to.
 use mathlib.Core.Path.{refl, sym, ap}
-use Prim.Native.Nat.{_*_, _≤_}
+use Prim.Native.Nat.{_≤_}
 use native.Mathlib.Omega.{arith}
 use lib.ListN.{length}
 use lib.Seq.{length-take-le}
@@ -16,25 +16,25 @@ use Rattle.speculative_execution.proofs.execute.Tie as tie
 
 -- ---- where the proof stands: at the entry, after the table is gathered, after the turns
 
-abbrev start : tie.After-committed-rows → tie.Start
+abbrev start : tie.After-committed-values → tie.Start
 start v = v .before .before .before .before .before .before
 
-abbrev gathered : tie.After-execute-pending → tie.After-committed-rows
+abbrev gathered : tie.After-execute-pending → tie.After-committed-values
 gathered x = x .before .before .before
 
 asked : (s : tie.Start) → Asked (s .args .l) (now (s .args .records)) (now (s .args .bodies))
 asked s = let p = s .pre .0 in record { sane = p .sane; objects = p .objects; few = p .operations; fit = s .pre .1 }
 
-bytes : (v : tie.After-committed-rows) → Below 256 (now (start v .args .records))
+bytes : (v : tie.After-committed-values) → Below 256 (now (start v .args .records))
 bytes v i = v .before .before .before .before .before .slice-known .given i .fits
 
-low : (v : tie.After-committed-rows) → start v .args .count ≤ most-work
+low : (v : tie.After-committed-values) → start v .args .count ≤ most-work
 unfolding most-work
 low v = v .before .before .before .if1 .left
 
--- the rows of the objects are within the local array
-fits : (v : tie.After-committed-rows) → v .committed-rows .result * 3 ≤ length (v .committed-rows .last .1 .1 .0)
-fits v = let e = v .committed-rows .ensures in omega (arith, e .few, e .gathered .room)
+-- the objects are within the local array
+fits : (v : tie.After-committed-values) → v .committed-values .result ≤ length (v .committed-values .last .1 .1 .0)
+fits v = let e = v .committed-values .ensures in omega (arith, e .few, e .room)
 
 -- both counts fit in 32 bits
 small : (x : tie.After-execute-pending) → (x .execute-pending .result .operations ≤ 4096) × (x .execute-pending .result .finished ≤ 65536)
@@ -54,13 +54,10 @@ returns c =
     let e = too-many (a .l) (now (a .records)) (now (a .bodies)) (a .count) (s .pre .1) (c .if1 .taken) in
     record { answers = sym (ap (λ (x : Answer × Areas). x .0) e); areas = sym (ap (λ (x : Answer × Areas). x .1) e) }
 
-committed-rows-requires : tie.Need-committed-rows-requires
-committed-rows-requires c κs =
+committed-values-requires : tie.Need-committed-values-requires
+committed-values-requires c κs =
     let s = c .before .before .before .before .before in
     (s .pre .0 .sane, readable (asked s) (λ i. c .before .before .before .before .slice-known .given i .fits), refl)
-
-mul-table : tie.Need-mul-table
-mul-table c = omega (arith, c .before .committed-rows .ensures .few)
 
 array-borrow-prefix-table : tie.Need-array-borrow-prefix-table
 array-borrow-prefix-table c = omega (arith, fits (c .before))
@@ -68,18 +65,18 @@ array-borrow-prefix-table c = omega (arith, fits (c .before))
 slice-aggregate-execute-pending : tie.Need-slice-aggregate-execute-pending
 slice-aggregate-execute-pending c =
     let v = c .before .before in
-    sym (length-take-le _ (v .committed-rows .last .1 .1 .0) (omega (arith, fits v)))
+    sym (length-take-le _ (v .committed-values .last .1 .1 .0) (omega (arith, fits v)))
 
 execute-pending-requires : tie.Need-execute-pending-requires
 execute-pending-requires c κs =
     let v = c .before .before in
-    begun (asked (start v)) (bytes v) (v .committed-rows .ensures) (start v .args .count) (low v)
+    begun (asked (start v)) (bytes v) (v .committed-values .ensures) (start v .args .count) (low v)
+
+cast-t17 : tie.Need-cast-t17
+cast-t17 c = let k = small (c .before .before .before .before) .0 in omega arith
 
 cast-t18 : tie.Need-cast-t18
-cast-t18 c = let k = small (c .before .before .before .before) .0 in omega arith
-
-cast-t19 : tie.Need-cast-t19
-cast-t19 c = let k = small (c .before .before .before .before .before) .1 in omega arith
+cast-t18 c = let k = small (c .before .before .before .before .before) .1 in omega arith
 
 same-length : tie.Need-same-length
 same-length c = search needs
@@ -95,12 +92,11 @@ execute-spec =
     tie.close
     (tie.spec
     returns
-    committed-rows-requires
-    mul-table
+    committed-values-requires
     array-borrow-prefix-table
     slice-aggregate-execute-pending
     execute-pending-requires
+    cast-t17
     cast-t18
-    cast-t19
     same-length
     returns-2)

@@ -1,27 +1,27 @@
 -- `speculative_execution::execute_pending`: the loop's invariant is that the transactions passed are worked on, and the others are still to be.
 use mathlib.Core.Path.{_≡_, refl, ap, _∙_, subst}
-use Prim.Native.Nat.{ℕ, _+_, _*_, _/_, _-_, _≤_, _<_}
+use Prim.Native.Nat.{ℕ, _+_, _-_, _≤_, _<_}
 use native.Mathlib.Omega.{arith}
 use lib.ListN.{length, getD}
 use borrow.Author.Tests.{not-true, not-false}
-use borrow.Rule.Slice.PartMut.{putMid, same-len-mid}
 use denote.Ref.{now}
 use Rattle.cells.specs.Cells.{cells, Below}
 use Rattle.operation.specs.Body.{body-length}
 use Rattle.layout.specs.Layout.{Areas, parse}
 use Rattle.layout.specs.Offsets.{record-length, body-at}
 use Rattle.layout.specs.Fit.{fit-says, lengths-say}
+use Rattle.rows.specs.Committed.{bounds-place}
 use Rattle.speculative_execution.specs.Passing.{Going, Worked}
 use Rattle.speculative_execution.specs.LentAreas.{pending-there, low-place, body-inside, begun-first, begun-last, lent-ready, lent-most, lent-next, lent-last}
 use Rattle.speculative_execution.proofs.execute_pending.Statement.{statement}
 use Rattle.speculative_execution.proofs.execute_pending.Tie as tie
 
 abbrev Inv-loop : tie.InvT-loop
-Inv-loop records₀ bodies l table₀ budget pending left₀ i₀ records table left i =
+Inv-loop records₀ bodies l table₀ budget pending bounds left₀ i₀ records table left i =
     (length records ≡ length records₀) × Going l (parse l (records₀, bodies)) budget records table i left × (length table ≡ length table₀)
 
 abbrev μ-loop : tie.MeasureT-loop
-μ-loop records₀ bodies l table₀ budget pending left₀ i₀ records table left i = pending - i
+μ-loop records₀ bodies l table₀ budget pending bounds left₀ i₀ records table left i = pending - i
 
 -- ---- where the proof stands: at the entry, at the loop's head, before a transaction's turn and after it
 
@@ -35,7 +35,7 @@ abbrev After : Type 0
 After = tie.After-advance Inv-loop μ-loop
 
 abbrev start : At → tie.Start Inv-loop μ-loop
-start lp = lp .before .before .before .before .before .before
+start lp = lp .before .before .before .before .before .before .before
 
 abbrev within : tie.In-loop Inv-loop μ-loop → tie.Start Inv-loop μ-loop
 within c = start (c .before)
@@ -51,14 +51,14 @@ prepared x = x .before .before .before .before
 
 -- a byte is a byte
 bytes : (lp : At) → Below 256 (now (start lp .args .records))
-bytes lp i = lp .before .before .before .before .before .slice-known .given i .fits
+bytes lp i = lp .before .before .before .before .before .before .slice-known .given i .fits
 
 -- the number of pending transactions
-total : (lp : At) → (let a = start lp .args in lp .before .get .result ≡ length (parse (a .l) (now (a .records), now (a .bodies)) .pending))
+total : (lp : At) → (let a = start lp .args in lp .before .before .get .result ≡ length (parse (a .l) (now (a .records), now (a .bodies)) .pending))
 total lp =
     let s = start lp in
     let a = s .args in
-    lp .before .get .ensures ∙ ap (λ (n : ℕ). getD (cells (now (a .records))) n 0) (lp .before .before .pending-at .ensures .exact)
+    lp .before .before .get .ensures ∙ ap (λ (n : ℕ). getD (cells (now (a .records))) n 0) (lp .before .before .before .pending-at .ensures .exact)
     ∙ pending-there (s .pre .sane) (now (a .records)) (now (a .bodies)) (s .pre .fit) (bytes lp)
 
 -- a turn's transaction is a pending one
@@ -91,23 +91,22 @@ body-bytes p = p .body-length .ensures ∙ ap body-length (p .before .small .ens
 
 -- ---- a turn
 
+-- the bounds' place
+placed : (lp : At) → lp .before .bounds-at .result ≡ bounds-place (start lp .args .l)
+placed lp = lp .before .bounds-at .ensures
+
 most : (x : After) → x .advance .result .used ≤ head (prepared x) .loop .left
 most x =
     let p = prepared x in
     let lp = head p in
-    lent-most (start lp .pre) (bytes lp) (lp .loop .inv .1) (turn (turn-of p)) (p .before .before .before .before .before .row-at .ensures .exact) (p .before .before .before .before .row-at2 .ensures .exact) (p .before .before .before .body-at .ensures .exact) (body-bytes p) (x .advance .ensures)
+    lent-most (start lp .pre) (bytes lp) (lp .loop .inv .1) (turn (turn-of p)) (p .before .before .before .before .before .row-at .ensures .exact) (p .before .before .before .before .row-at2 .ensures .exact) (p .before .before .before .body-at .ensures .exact) (body-bytes p) (placed lp) (x .advance .ensures)
 
 -- both slices keep their lengths
-records-same : (x : After) → (let p = prepared x in let r = p .before .before .before .before .before .row-at .result * 8 in let e = p .before .before .before .before .row-at2 .result * 8 in
-    length (putMid r (e - r) (head p .loop .records) (x .advance .last .0)) ≡ length (now (start (head p) .args .records)))
-records-same x =
-    let p = prepared x in
-    let r = p .before .before .before .before .before .row-at .result * 8 in
-    let e = p .before .before .before .before .row-at2 .result * 8 in
-    same-len-mid r (e - r) (head p .loop .records) (x .advance .last .0) (x .advance .kept .0) ∙ head p .loop .inv .0
+records-same : (x : After) → length (x .advance .last .0) ≡ length (now (start (head (prepared x)) .args .records))
+records-same x = x .advance .kept .0 ∙ head (prepared x) .loop .inv .0
 
-table-same : (x : After) → (let p = prepared x in length (x .advance .last .1 .1 .0) ≡ length (now (start (head p) .args .table)))
-table-same x = x .advance .kept .1 .1 .0 ∙ head (prepared x) .loop .inv .2
+table-same : (x : After) → length (x .advance .last .1 .1 .1 .1 .1 .0) ≡ length (now (start (head (prepared x)) .args .table))
+table-same x = x .advance .kept .1 .1 .1 .1 .1 .0 ∙ head (prepared x) .loop .inv .2
 
 -- ---- the needs
 
@@ -117,10 +116,13 @@ pending-at-requires c κs = c .before .before .before .pre .sane
 get-requires : tie.Need-get-requires Inv-loop μ-loop
 get-requires c κs = omega (arith, c .pending-at .ensures .exact, lengths (c .before .before .before .before))
 
+bounds-at-requires : tie.Need-bounds-at-requires Inv-loop μ-loop
+bounds-at-requires c κs = c .before .before .before .before .before .pre .sane
+
 loop-holds : tie.Need-loop-holds Inv-loop μ-loop
 loop-holds c =
-    let s = c .before .before .before .before .before in
-    (refl, begun-first (s .pre) (λ i. c .before .before .before .before .slice-known .given i .fits), refl)
+    let s = c .before .before .before .before .before .before in
+    (refl, begun-first (s .pre) (λ i. c .before .before .before .before .before .slice-known .given i .fits), refl)
 
 row-at-requires : tie.Need-row-at-requires Inv-loop μ-loop
 row-at-requires c κs = (within c .pre .sane, omega (arith, place c))
@@ -153,22 +155,13 @@ add-end : tie.Need-add-end Inv-loop μ-loop
 add-end c = let e = c .before .before .before .body-at .ensures in omega (arith, e .inside, e .small, c .body-length .ensures, c .before .small .ensures .1)
 
 sub-advance : tie.Need-sub-advance Inv-loop μ-loop
-sub-advance c = omega (arith, c .before .before .before .before .row-at2 .ensures .exact, c .before .before .before .before .before .row-at .ensures .exact)
+sub-advance c = omega arith
 
 part-advance-start : tie.Need-part-advance-start Inv-loop μ-loop
-part-advance-start c = omega (arith, c .before .before .before .before .row-at2 .ensures .exact, c .before .before .before .before .before .row-at .ensures .exact)
+part-advance-start c = omega arith
 
 part-advance-end : tie.Need-part-advance-end Inv-loop μ-loop
-part-advance-end c = omega (arith, c .before .before .before .before .row-at2 .ensures .inside, whole (head c))
-
-sub-advance-2 : tie.Need-sub-advance-2 Inv-loop μ-loop
-sub-advance-2 c = omega arith
-
-part-advance-start-2 : tie.Need-part-advance-start-2 Inv-loop μ-loop
-part-advance-start-2 c = omega arith
-
-part-advance-end-2 : tie.Need-part-advance-end-2 Inv-loop μ-loop
-part-advance-end-2 c =
+part-advance-end c =
     let p = c .before in
     let e = p .before .before .before .body-at .ensures .exact in
     let same = ap (λ (at : ℕ). body-length (getD (now (start (head p) .args .bodies)) at 0)) e in
@@ -178,7 +171,8 @@ advance-requires : tie.Need-advance-requires Inv-loop μ-loop
 advance-requires c κs =
     let p = c .before .before .before in
     let lp = head p in
-    lent-ready (start lp .pre) (bytes lp) (lp .loop .inv .1) (turn (turn-of p)) (p .before .before .before .before .before .row-at .ensures .exact) (p .before .before .before .before .row-at2 .ensures .exact) (p .before .before .before .body-at .ensures .exact) (body-bytes p)
+    let next = p .before .before .before .before .row-at2 .ensures in
+    lent-ready (start lp .pre) (bytes lp) (lp .loop .inv .1) (turn (turn-of p)) (p .before .before .before .before .before .row-at .ensures .exact) (p .before .before .before .before .row-at2 .ensures .exact) (p .before .before .before .body-at .ensures .exact) (body-bytes p) (placed lp) (omega (arith, next .inside, whole lp))
 
 sub-left : tie.Need-sub-left Inv-loop μ-loop
 sub-left c = most (c .before .before .before .before)
@@ -198,7 +192,7 @@ returns c =
     let p = prepared x in
     let lp = head p in
     lent-last (start lp .pre) (bytes lp) (lp .loop .inv .1) (turn (turn-of p)) (p .before .before .before .before .before .row-at .ensures .exact) (p .before .before .before .before .row-at2 .ensures .exact) (p .before .before .before .body-at .ensures .exact) (body-bytes p)
-    (x .advance .ensures) (not-true _ (c .if1 .taken))
+    (placed lp) (x .advance .ensures) (not-true _ (c .if1 .taken))
 
 add-i : tie.Need-add-i Inv-loop μ-loop
 add-i c = omega (arith, turn (turn-of (prepared (c .before .before .before .before .before .before))))
@@ -213,7 +207,7 @@ loop-again c =
     let lp = head p in (
       records-same x,
       lent-next (start lp .pre) (bytes lp) (lp .loop .inv .1) (turn (turn-of p)) (p .before .before .before .before .before .row-at .ensures .exact) (p .before .before .before .before .row-at2 .ensures .exact) (p .before .before .before .body-at .ensures .exact) (body-bytes p)
-          (x .advance .ensures) (not-false _ (c .if1 .left)) (ap (λ (k : ℕ). k / 3) (x .advance .kept .1 .1 .0)),
+          (placed lp) (x .advance .ensures) (not-false _ (c .if1 .left)) (x .advance .kept .1 .1 .1 .1 .1 .0),
       table-same x,
     )
 
@@ -232,7 +226,7 @@ returns-2 c =
     let s = start lp in
     let a = s .args in
     let v = lp .loop in
-    let all : v .i ≡ lp .before .get .result = omega (arith, total lp, v .inv .1 .within) in
+    let all : v .i ≡ lp .before .before .get .result = omega (arith, total lp, v .inv .1 .within) in
     subst (λ (f : ℕ). Worked (a .l) (parse (a .l) (now (a .records), now (a .bodies))) (a .budget) (v .records) (a .budget - v .left) f) all
     (begun-last (s .pre) (bytes lp) (v .inv .1) (omega (arith, total lp)))
 
@@ -244,6 +238,7 @@ execute-pending-spec =
     μ-loop
     pending-at-requires
     get-requires
+    bounds-at-requires
     loop-holds
     row-at-requires
     mul-row
@@ -258,9 +253,6 @@ execute-pending-spec =
     sub-advance
     part-advance-start
     part-advance-end
-    sub-advance-2
-    part-advance-start-2
-    part-advance-end-2
     advance-requires
     sub-left
     sub-t32

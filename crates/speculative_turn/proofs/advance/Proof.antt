@@ -1,43 +1,49 @@
 -- `speculative_turn::advance`: a finished transaction's writes go over the table; any other is resumed.
-use mathlib.Core.Path.{_≡_, sym, ap₂, _∙_}
-use Prim.Native.Nat.{ℕ}
+use mathlib.Core.Path.{_≡_, sym, _∙_}
 use borrow.Author.Needs.{needs}
+use borrow.Rule.Slice.PartMut.{put-same}
 use denote.Ref.{now}
-use Rattle.operation.specs.Body.{operations}
-use Rattle.execution.specs.Run.{is-none, due-at, ended}
-use Rattle.speculative_turn.specs.Advance.{before, some-body, idle-sound, idle}
+use Prim.Native.Nat.{_-_}
+use Rattle.speculative_turn.specs.Advance.{some-body, idle-sound, idle}
+use Rattle.speculative_turn.specs.LentRow.{row-in, allow-in}
 use Rattle.speculative_turn.proofs.advance.Statement.{statement}
 use Rattle.speculative_turn.proofs.advance.Tie as tie
 
 -- ---- where the proof stands: at the entry, and after the test
 
 abbrev start : tie.After-is-finished → tie.Start
-start f = f .before .before .before .before .before .before .before
-
--- the test is of the run on record
-tested : (f : tie.After-is-finished) → (let a = start f .args in f .is-finished .result ≡ ended (operations (now (a .body))) (before (now (a .row))))
-tested f =
-    let a = start f .args in
-    f .is-finished .ensures
-    ∙ ap₂ (λ (i o : ℕ). is-none (due-at (operations (now (a .body))) i o)) (f .before .before .before .get .ensures) (f .before .get2 .ensures)
+start f = f .before .before .before .before .before
 
 -- ---- the needs
 
-get-requires : tie.Need-get-requires
-get-requires c κs = search needs
+sub-is-finished : tie.Need-sub-is-finished
+sub-is-finished c = search needs
 
-get-requires-2 : tie.Need-get-requires-2
-get-requires-2 c κs = search needs
+part-is-finished-start : tie.Need-part-is-finished-start
+part-is-finished-start c = search needs
+
+part-is-finished-end : tie.Need-part-is-finished-end
+part-is-finished-end c = search needs
 
 is-finished-requires : tie.Need-is-finished-requires
 is-finished-requires c κs =
-    some-body (c .before .before .before .before .before .before .pre)
+    let p = c .before .before .before .before .pre in
+    (p .ready .readable, some-body (p .ready))
+
+sub-overlay-writes : tie.Need-sub-overlay-writes
+sub-overlay-writes c = search needs
+
+part-overlay-writes-start : tie.Need-part-overlay-writes-start
+part-overlay-writes-start c = search needs
+
+part-overlay-writes-end : tie.Need-part-overlay-writes-end
+part-overlay-writes-end c = search needs
 
 overlay-writes-requires : tie.Need-overlay-writes-requires
 overlay-writes-requires c κs =
-    let test = c .before .before .before in
-    let s = start test in
-    (s .pre .readable, idle-sound (s .pre) (sym (tested test) ∙ c .before .before .if1 .taken))
+    let test = c .before .before .before .before in
+    let p = start test .pre in
+    (p .ready .readable, idle-sound (p .ready) (sym (test .is-finished .ensures) ∙ c .before .before .before .if1 .taken))
 
 same-length : tie.Need-same-length
 same-length c = search needs
@@ -45,17 +51,24 @@ same-length c = search needs
 same-length-2 : tie.Need-same-length-2
 same-length-2 c = search needs
 
+-- the row stays, and with it the area
 returns : tie.Need-returns
 returns c =
-    let done = c .before in
-    let test = done .before .before .before .before in
+    let over = c .before in
+    let test = c .before .before .before .before .before .before in
     let s = start test in
-    idle (s .pre) (sym (tested test) ∙ done .before .before .before .if1 .taken) (done .overlay-writes .last .1 .0) (done .overlay-writes .ensures .0)
+    let a = s .args in
+    let done = sym (test .is-finished .ensures) ∙ c .before .before .before .before .before .if1 .taken in
+    record {
+      new-row = row-in (now (a .records)) (a .row) (a .next);
+      leaves = idle (s .pre .ready) done (over .overlay-writes .last .1 .0) (over .overlay-writes .ensures .0 (allow-in (now (a .records)) (a .bounds) (now (a .table))));
+      back = sym (put-same (a .row) (a .next - a .row) (now (a .records)));
+    }
 
 resume-requires : tie.Need-resume-requires
 resume-requires c κs =
     let test = c .before .before .before in
-    (start test .pre, sym (tested test) ∙ c .before .before .if1 .left)
+    (start test .pre, sym (test .is-finished .ensures) ∙ c .before .before .if1 .left)
 
 same-length-3 : tie.Need-same-length-3
 same-length-3 c = search needs
@@ -70,9 +83,13 @@ pub advance-spec : {M : Type 1} → statement M
 advance-spec =
     tie.close
     (tie.spec
-    get-requires
-    get-requires-2
+    sub-is-finished
+    part-is-finished-start
+    part-is-finished-end
     is-finished-requires
+    sub-overlay-writes
+    part-overlay-writes-start
+    part-overlay-writes-end
     overlay-writes-requires
     same-length
     same-length-2
