@@ -1,6 +1,6 @@
 -- A run that has ended, by its numbers: stopped early, or past the last operation of its body. Assumes nothing.
 use mathlib.Core.Path.{_≡_, refl, sym, ap, _∙_}
-use mathlib.Core.Bool.{true, _||_}
+use mathlib.Core.Bool.{Bool, true, _||_, or-true, or-false}
 use mathlib.Core.List.{List, [], _∷_}
 use Prim.Native.Nat.{ℕ, zero, suc, _≤_, _<_}
 use native.Mathlib.Omega.{arith}
@@ -27,8 +27,8 @@ module _ (body : List ℕ) (counter outcome : ℕ) where
       ended-numbers (operations body) counter outcome
       ∙ ap (λ (m : ℕ). ltb 0 outcome || leb m counter) (length-operations body)
 
-  pub ended-early : 0 < outcome → is-none (due-at (operations body) counter outcome) ≡ true
-  ended-early h = body-ended ∙ rw (lt-ltb 0 outcome h)
+  pub ended-past : (m : ℕ) → m ≡ size body → m ≤ counter → is-none (due-at (operations body) counter outcome) ≡ true
+  ended-past m e h = body-ended ∙ ap (λ (t : Bool). ltb 0 outcome || t) (le-leb (size body) counter (omega arith)) ∙ or-true (ltb 0 outcome)
 
-  pub ended-past : outcome ≤ 0 → (m : ℕ) → m ≡ size body → is-none (due-at (operations body) counter outcome) ≡ leb m counter
-  ended-past h m e = body-ended ∙ rw (le-ltb 0 outcome h, e)
+  pub ended-early : (m : ℕ) → m ≡ size body → counter < m → is-none (due-at (operations body) counter outcome) ≡ ltb 0 outcome
+  ended-early m e h = body-ended ∙ ap (λ (t : Bool). ltb 0 outcome || t) (lt-leb (size body) counter (omega arith)) ∙ or-false (ltb 0 outcome)

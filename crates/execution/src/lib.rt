@@ -25,15 +25,15 @@ pub struct BoundsAt {
     pub stride: usize,
 }
 
-// Whether a run of this body has ended: stopped early, or past the last operation. Of the body its first byte alone is looked at.
+// Whether a run of this body has ended: past the last operation, as most that have, or stopped early. Of the body its first byte alone is looked at.
 pub fn is_finished(body: &[u8], counter: usize, outcome: usize) -> bool
     requires { ⌜ 0 < length (now body) ⌝ }
     ensures { λ r. ⌜ r ≡ is-none (due-at (operations (now (body .entry))) counter outcome) ⌝ }
 {
-    if 0 < outcome {
+    if operation::small(body[0]) <= counter {
         return true;
     }
-    operation::small(body[0]) <= counter
+    0 < outcome
 }
 
 // Lays a write set over a table, the last entry first, so that the first entry of an object counts. Whatever each object may take stays.

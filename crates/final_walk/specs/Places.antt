@@ -8,7 +8,7 @@ use native.Mathlib.Omega.{arith}
 use native.Mathlib.Nat.{mul-le-mul-right}
 use lib.IntN.{ℤ}
 use lib.Dec.{ltb}
-use lib.ListN.{length, getD, set, length-set}
+use lib.ListN.{length, getD}
 use mir.Syntax.{w64}
 use mir.Val.{toZ}
 use borrow.Author.Tests.{ltb-true}
@@ -25,7 +25,6 @@ use Rattle.model.specs.ListLaws.{All}
 use Rattle.layout.specs.Offsets.{Sane, object-width, object-at, value-at}
 use Rattle.layout.specs.Holds.{Holds, holds-long}
 use Rattle.rows.specs.Committed.{value-back}
-use Rattle.rows.specs.Listed.{fill-next}
 
 -- It is compared with what was read, and nothing is stored on it: which values it allows is not asked.
 abbrev pub table-in : List ℕ → List ℕ → Table
@@ -47,14 +46,6 @@ pub record Reaching (b ps : List ℕ) (es : List Entry) : Type 0 where
 pub record Placed (l : Limits) (n : ℕ) (ps : List ℕ) : Type 0 where
   pub room : length ps ≡ 128
   pub at : (o : ℕ) → o < n → getD ps o 0 ≡ object-at l o + value-at 0
-
-pub placed-none : {l : Limits} {ps : List ℕ} → length ps ≡ 128 → Placed l 0 ps
-placed-none e = record { room = e; at = λ o h. absurd (omega arith) }
-
-pub placed-next : {l : Limits} {n : ℕ} {ps : List ℕ} {v : ℕ} → n < 128 → Placed l n ps → v ≡ object-at l n + value-at 0 → Placed l (n + 1) (set ps n v)
-placed-next {l} {n} {ps} {v} h p e =
-    let m = p .room in
-    record { room = length-set ps n v ∙ p .room; at = fill-next (λ o. object-at l o + value-at 0) 0 ps n v (omega arith) (p .at) e }
 
 -- ---- tables that give the same values of the first n objects
 

@@ -14,16 +14,20 @@ ghost use Rattle.final_walk.specs.Recorded.{reads-from, writes-from, Lyi
 ghost use Rattle.final_walk.specs.RestartFrom.{Restarts};
 ghost use Rattle.final_walk.specs.Walk.{Walking, Stale, Walks};
 
-// Where the committed state stands: each object's newest value has its cell in the object's block, and the objects passed have theirs.
+// Where the committed state stands: each object's newest value has its cell in the object's block, and the objects passed have theirs. The place
+// runs, for an object's width is no power of two and a product per object costs more.
 pub fn committed_places(records: &[u8], l: Limits, places: &mut [usize; 128])
     requires { ⌜ Sane l ⌝ }
     requires { ⌜ Laid l (now records) × (length (now places) ≡ 128) ⌝ }
     ensures { λ _. ⌜ Placed l (getD (cells (now (records .entry))) (size-at l) 0) (now (places .exit)) ⌝ }
 {
     let n = cells::get(records, layout::size_at(l)) as usize;
+    let width = layout::object_width(l);
+    let mut place = layout::object_at(l, 0) + layout::NEWEST_VALUE;
     let mut o = 0;
     while o < n {
-        places[o] = layout::object_at(l, o) + layout::NEWEST_VALUE;
+        places[o] = place;
+        place += width;
         o += 1;
     }
 }

@@ -75,7 +75,7 @@ fn put_objects(
     }
 }
 
-// One zero fill of each area, then the cells that are not 0.
+// One zero fill of each area, then the cells that are not 0. The record area last: it is at hand then, and both are more than the nearest cache holds.
 pub fn fill(
     records: &mut [u8],
     bodies: &mut [u8],
@@ -89,10 +89,10 @@ pub fn fill(
     ensures { λ _. ⌜ (now (records .exit), now (bodies .exit))
         ≡ print l (opened l (start-of (by-values (length (now (values .entry))) (now (values .entry)) (now (lower .entry)) (now (upper .entry)) timestamp))) ⌝ }
 {
-    let records_end = records.len();
-    cells::fill_zero(records, 0, records_end);
     let bodies_end = bodies.len();
     cells::fill_zero(bodies, 0, bodies_end);
+    let records_end = records.len();
+    cells::fill_zero(records, 0, records_end);
     let t = timestamp as u64;
     let n = values.len();
     let first = layout::object_at(l, 0) * 8;

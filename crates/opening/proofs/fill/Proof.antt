@@ -34,19 +34,27 @@ part-put-objects-start c = search needs
 part-put-objects-end : tie.Need-part-put-objects-end
 part-put-objects-end c = search needs
 
+-- ---- where the proof stands: at the entry, where the bodies are cleared, and where the records are
+
+abbrev start : tie.After-fill-zero → tie.Start
+start z = z .before .before .before .before
+
+abbrev bodies-cleared : tie.After-fill-zero2 → tie.After-fill-zero
+bodies-cleared y = y .before .before .before .before
+
 put-objects-requires : tie.Need-put-objects-requires
 put-objects-requires c κs =
-    let z = c .before .before .before .before .before .before .before .before .before in
-    let a = z .before .before .before .before .args in
-    let p = z .before .before .before .before .pre in
-    let n = length (a .values .now) in
+    let y = c .before .before .before .before .before in
+    let s = start (bodies-cleared y) in
+    let a = s .args in
+    let p = s .pre in
     let f = c .before .before .object-at in
     let e = c .before .object-at2 in
     record {
       few = search needs;
       lowers = p .lowers;
       uppers = p .uppers;
-      zeros = lent-blank (a .l) (a .records .now) (z .fill-zero .last .0) (p .record-area) (z .fill-zero .ensures) n (f .result) (e .result) (f .ensures .exact) (e .ensures .exact) (e .ensures .inside);
+      zeros = lent-blank (a .l) (a .records .now) (y .fill-zero2 .last .0) (p .record-area) (y .fill-zero2 .ensures) (length (a .values .now)) (f .result) (e .result) (f .ensures .exact) (e .ensures .exact) (e .ensures .inside);
     }
 
 size-at-requires : tie.Need-size-at-requires
@@ -67,19 +75,19 @@ same-length-2 c = search needs
 returns : tie.Need-returns
 returns c =
     let w = c .before .before .before .before .before .before .before .before .before .before .before in
-    let z = w .before .before .before .before .before .before .before .before .before .before in
-    let a = z .before .before .before .before .args in
-    let p = z .before .before .before .before .pre in
-    let n = length (a .values .now) in
+    let y = w .before .before .before .before .before .before in
+    let z = bodies-cleared y in
+    let s = start z in
+    let a = s .args in
+    let p = s .pre in
     let f = w .before .before .before .object-at in
     let e = w .before .before .object-at2 in
     let o = w .put-objects in
     let at = c .before .before .before .before .before .before .before .size-at in
-    let y = w .before .before .before .before .before .before .fill-zero2 in
-    opened-areas (a .l) (p .sane) (a .values .now) (a .lower .now) (a .upper .now) (p .few) (p .lowers) (p .uppers) (a .timestamp) (search (needs, z .before .before .before .before .fits)) (o .last .0) (o .ensures) _ _ _
-    (put-back (a .l) (a .records .now) (z .fill-zero .last .0) (p .record-area) (z .fill-zero .ensures) n (f .result) (e .result) (f .ensures .exact) (e .ensures .exact) (o .last .0) (o .last .0) refl)
-    (at .result) (at .ensures .exact) (c .before .before .before .before .before .before .put .ensures) (c .before .before .put2 .ensures) (y .last .0)
-    (y .ensures ∙ cleared (a .bodies .now) (length (a .bodies .now)) refl ∙ ap blank (p .body-area))
+    opened-areas (a .l) (p .sane) (a .values .now) (a .lower .now) (a .upper .now) (p .few) (p .lowers) (p .uppers) (a .timestamp) (search (needs, s .fits)) (o .last .0) (o .ensures) _ _ _
+    (put-back (a .l) (a .records .now) (y .fill-zero2 .last .0) (p .record-area) (y .fill-zero2 .ensures) (length (a .values .now)) (f .result) (e .result) (f .ensures .exact) (e .ensures .exact) (o .last .0) (o .last .0) refl)
+    (at .result) (at .ensures .exact) (c .before .before .before .before .before .before .put .ensures) (c .before .before .put2 .ensures) (z .fill-zero .last .0)
+    (z .fill-zero .ensures ∙ cleared (a .bodies .now) (length (a .bodies .now)) refl ∙ ap blank (p .body-area))
 
 pub fill-spec : {M : Type 1} → statement M
 fill-spec =
