@@ -13,12 +13,16 @@ use Rattle.execution.specs.declared.BoundsAt.{BoundsAt}
 use Rattle.execution.specs.Bounds.{Bounds, no-bounds, inside}
 use Rattle.execution.specs.Run.{Table, table-of, object-count}
 
--- the cell of object o's lower bound; its upper one stands behind it
+-- bounds that stand from cell a on, the lower one first
+abbrev pub bounds-from : List ℕ → ℕ → Bounds
+bounds-from cs a = record { lower = toZ w64 (getD cs a 0); upper = toZ w64 (getD cs (a + 1) 0) }
+
+-- where those of object o do
 abbrev pub bounds-cell : BoundsAt → ℕ → ℕ
 bounds-cell p o = p .first + o * p .stride
 
 abbrev pub bounds-at : BoundsAt → List ℕ → ℕ → Bounds
-bounds-at p cs o = record { lower = toZ w64 (getD cs (bounds-cell p o) 0); upper = toZ w64 (getD cs (bounds-cell p o + 1) 0) }
+bounds-at p cs o = bounds-from cs (bounds-cell p o)
 
 -- the bounds of n objects; any other has none
 abbrev pub bounds-of : ℕ → BoundsAt → List ℕ → ℕ → Bounds

@@ -2,10 +2,13 @@
 // runs are in specs/. Registers and both sets stand in lent arrays; four counts go by value.
 ghost use mathlib.Core.Path.{_≡_};
 ghost use mathlib.Core.Bool.{Bool, true};
-ghost use Prim.Native.Nat.{ℕ, _<_, _≤_};
+ghost use Prim.Native.Nat.{ℕ, _+_, _*_, _<_, _≤_};
 ghost use lib.IntN.{ℤ};
 ghost use lib.ListN.{length};
+ghost use Rattle.cells.specs.Cells.{cells};
 ghost use Rattle.operation.specs.Body.{operations};
+ghost use Rattle.execution.specs.Bounds.{inside};
+ghost use Rattle.execution.specs.LentTable.{bounds-from};
 ghost use Rattle.execution.specs.Run.{table-of, object-count, is-none, due-at, over};
 ghost use Rattle.execution.specs.RunShape.{every, sound};
 ghost use Rattle.execution.specs.Arrays.{capacity, entries};
@@ -34,6 +37,16 @@ pub fn is_finished(body: &[u8], counter: usize, outcome: usize) -> bool
         return true;
     }
     0 < outcome
+}
+
+// May an object whose bounds stand from this cell on, the lower one first, take the value? One at a bound is inside. Both tests without a branch.
+pub fn allows(area: &[u8], lower: usize, value: i64) -> bool
+    requires { ⌜ (lower + 2) * 8 ≤ length (now area) ⌝ }
+    ensures { λ r. ⌜ r ≡ inside (bounds-from (cells (now (area .entry))) lower) value ⌝ }
+{
+    let low = cells::get_signed(area, lower);
+    let high = cells::get_signed(area, lower + 1);
+    (low <= value) & (value <= high)
 }
 
 // Lays a write set over a table, the last entry first, so that the first entry of an object counts. Whatever each object may take stays.

@@ -10,9 +10,8 @@ ghost use Prim.Native.Nat.{ℕ, _+_, _*_, _≤_, _<_};
 ghost use lib.IntN.{ℤ};
 ghost use lib.ListN.{length, set};
 ghost use Rattle.cells.specs.Cells.{cells};
-ghost use Rattle.execution.specs.Bounds.{inside};
 ghost use Rattle.execution.specs.Run.{Table, table-of, object-count, apply, get as get-move, put as put-move, register};
-ghost use Rattle.execution.specs.LentTable.{bounds-cell, bounds-at, allowed};
+ghost use Rattle.execution.specs.LentTable.{bounds-cell, allowed};
 ghost use Rattle.execution.specs.Arrays.{capacity, run-of-arrays, Room, Bounded};
 ghost use Rattle.execution_effects.specs.Effects.{advanced, stopped, settled, Found};
 
@@ -121,17 +120,6 @@ pub fn load<'a>(
     }
 }
 
-// Whether the object may take this value: a value at a bound is allowed. No branch: a value may lie outside at either end.
-fn allows(records: &[u8], bounds: BoundsAt, o: usize, v: i64) -> bool
-    requires { ⌜ (bounds-cell bounds o + 2) * 8 ≤ length (now records) ⌝ }
-    ensures { λ b. ⌜ b ≡ inside (bounds-at bounds (cells (now (records .entry))) o) v ⌝ }
-{
-    let at = bounds.first + o * bounds.stride;
-    let lower = cells::get_signed(records, at);
-    let upper = cells::get_signed(records, at + 1);
-    (lower <= v) & (v <= upper)
-}
-
 // A value outside the object's bounds stops the run. An object stored again keeps its place and takes the new value.
 pub fn store(
     records: &[u8],
@@ -152,7 +140,8 @@ pub fn store(
     ensures room { λ _. ⌜ Room (now (wo .exit)) (now (wv .exit)) ⌝ }
 {
     let v = registers[r];
-    if !allows(records, bounds, o, v) {
+    let at = bounds.first + o * bounds.stride;
+    if !execution::allows(records, at, v) {
         return stop(c, 3);
     }
     let n = c.writes;

@@ -9,12 +9,13 @@ use lib.Seq.{getD-take, getD-drop}
 use mir.Syntax.{w64}
 use mir.Val.{toZ}
 use Rattle.execution.specs.Bounds.{Bounds, no-bounds, inside}
+use Rattle.execution.specs.LentTable.{bounds-from}
 use Rattle.model.specs.ShapeCheck.{stores-inside}
 use Rattle.versions.specs.Block.{width, object-cells, bounds-at}
 use Rattle.layout.specs.Rows.{chunks}
 use Rattle.layout.specs.Layout.{entry}
 use Rattle.shape_names.specs.NameScan.{names-in}
-use Rattle.shape_row.specs.RowScan.{bound-cell, bounds-from, stores-in}
+use Rattle.shape_row.specs.RowScan.{bound-cell, stores-in}
 use Rattle.shape_row.specs.RowTests.{names-first}
 use Rattle.shape.specs.Leaves.{object-of}
 

@@ -10,7 +10,8 @@ use mir.Syntax.{w64}
 use mir.Val.{toZ}
 use Rattle.cells.specs.Zeros.{zeros}
 use Rattle.operation.specs.Body.{body-length, size, is-well-formed}
-use Rattle.execution.specs.Bounds.{Bounds, inside}
+use Rattle.execution.specs.Bounds.{inside}
+use Rattle.execution.specs.LentTable.{bounds-from}
 use Rattle.model.specs.Calls.{clients}
 use Rattle.shape_names.specs.NameScan.{names-in}
 use Rattle.versions.specs.Block.{width, object-cells}
@@ -26,9 +27,6 @@ place-of most = body-length most
 -- the cell of an object's lower bound; the upper one's is the next
 abbrev pub bound-cell : ℕ → ℕ → ℕ
 bound-cell readers o = o * object-cells readers + width readers
-
-abbrev pub bounds-from : List ℕ → ℕ → Bounds
-bounds-from os i = record { lower = toZ w64 (getD os i 0); upper = toZ w64 (getD os (i + 1) 0) }
 
 -- the parts of a row that are looked at
 abbrev pub counter-in : List ℕ → ℕ

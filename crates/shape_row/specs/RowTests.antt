@@ -19,13 +19,14 @@ use Rattle.operation.specs.declared.Decoded.the-variants.{WellFormed, Malformed
 use Rattle.operation.specs.Body.{size, is-well-formed, decoded}
 use Rattle.operation.specs.BodyLaws.{formed, taken, refused}
 use Rattle.execution.specs.Bounds.{inside}
+use Rattle.execution.specs.LentTable.{bounds-from}
 use Rattle.execution.specs.ReadAgreement.{both}
 use Rattle.model.specs.Calls.{clients}
 use Rattle.layout.specs.Offsets.{entry-at}
 use Rattle.layout.specs.Rows.{chunks}
 use Rattle.shape_names.specs.NameScan.{absent, names-in}
 use Rattle.versions.specs.Block.{object-cells}
-use Rattle.shape_row.specs.RowScan.{bound-cell, bounds-from, counter-in, outcome-in, reads-in, entries-in, key-in, body-in, stores-in, sets-in, begun, begun-in, run-in, row-in}
+use Rattle.shape_row.specs.RowScan.{bound-cell, counter-in, outcome-in, reads-in, entries-in, key-in, body-in, stores-in, sets-in, begun, begun-in, run-in, row-in}
 use Rattle.shape_row.specs.LentRow.{Named}
 
 -- ---- leaves, test by test

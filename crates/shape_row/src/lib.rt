@@ -9,8 +9,7 @@ ghost use Rattle.cells.specs.Cells.{cells};
 ghost use Rattle.cells.specs.Zeros.{zeros};
 ghost use Rattle.operation.specs.Columns.{most-operations};
 ghost use Rattle.layout.specs.Offsets.{entry-at};
-ghost use Rattle.execution.specs.Bounds.{inside};
-ghost use Rattle.shape_row.specs.RowScan.{key-in, body-in, bounds-from, stores-in, sets-in, run-in, row-in, cells-of, place-of};
+ghost use Rattle.shape_row.specs.RowScan.{key-in, body-in, stores-in, sets-in, run-in, row-in, cells-of, place-of};
 ghost use Rattle.shape_row.specs.LentRow.{Objects, Named, Row};
 
 // Is a key one of a client's, and unspent, its sequence number being above the client's last?
@@ -49,14 +48,6 @@ pub fn row_cells(most: usize) -> usize
     layout::ROW_FIRST_ENTRY + layout::ENTRY_WIDTH * most
 }
 
-// May the object whose lower bound is this cell take the value? One at a bound is inside. Both tests without a branch.
-fn allows(objects: &[u8], lower: usize, value: i64) -> bool
-    requires { ⌜ (lower + 2) * 8 ≤ length (now objects) ⌝ }
-    ensures { λ r. ⌜ r ≡ inside (bounds-from (cells (now (objects .entry))) lower) value ⌝ }
-{
-    (cells::get_signed(objects, lower) <= value) & (value <= cells::get_signed(objects, lower + 1))
-}
-
 // Is the value of each of the first count entries inside the bounds of the entry's object, which is one of those lent? Where the bounds lie depends on
 // the readers alone, so that the other limits do not matter.
 fn stores_ok(entries: &[u8], objects: &[u8], readers: usize, count: usize) -> bool
@@ -69,7 +60,7 @@ fn stores_ok(entries: &[u8], objects: &[u8], readers: usize, count: usize) -> bo
     let mut left = count;
     while 0 < left {
         let lower = cells::get(entries, at) as usize * width + bounds;
-        if allows(objects, lower, cells::get_signed(entries, at + 1)) {
+        if execution::allows(objects, lower, cells::get_signed(entries, at + 1)) {
             at += 2;
             left -= 1;
         } else {

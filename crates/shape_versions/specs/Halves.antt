@@ -23,7 +23,8 @@ all-chunks f w (suc a) b p q e =
     let m : suc a + b ≡ suc (a + b) = omega arith in
     rw (m, front, back, rest) (sym (and-assoc (f (take w p)) (all f (chunks w a (drop w p))) (all f (chunks w b q))))
 
-pub blocks-halves : (n timestamp : ℕ) (rc : List ℕ) (a b m : ℕ) (xs : List ℕ) → m ≡ a + b → length xs ≡ m * (object-cells n * 8) → blocks-ok n timestamp rc m (cells xs) ≡ blocks-ok n timestamp rc a (cells (take (a * (object-cells n * 8)) xs)) && blocks-ok n timestamp rc b (cells (drop (a * (object-cells n * 8)) xs))
+pub blocks-halves : (n timestamp : ℕ) (rc : List ℕ) (a b m : ℕ) (xs : List ℕ) → m ≡ a + b → length xs ≡ m * (object-cells n * 8)
+    → blocks-ok n timestamp rc m (cells xs) ≡ blocks-ok n timestamp rc a (cells (take (a * (object-cells n * 8)) xs)) && blocks-ok n timestamp rc b (cells (drop (a * (object-cells n * 8)) xs))
 unfolding blocks-ok
 blocks-halves n timestamp rc a b m xs em ex =
     let w = object-cells n in

@@ -14,12 +14,20 @@ use Rattle.execution_effects.specs.OneOperation.{bounded-advanced, bound
 use Rattle.execution_effects.proofs.store.Statement.{statement}
 use Rattle.execution_effects.proofs.store.Tie as tie
 
+-- ---- where the proof stands: at the entry, and where the value is read
+
+abbrev start : tie.After-allows → tie.Start
+start c = c .before .before .before .before .before
+
+abbrev value : tie.After-allows → tie.After-v
+value c = c .before .before .before
+
 -- the test asks what the table asks of the register's value
 tested : (c : tie.After-allows) {t : Bool} → not (c .allows .result) ≡ t
-    → (let a = c .before .before .before .args in (n : ℕ) → a .o < n → allowed n (a .bounds) (cells (now (a .records))) (a .o) (register (now (a .registers)) (a .r)) ≡ not t)
+    → (let a = start c .args in (n : ℕ) → a .o < n → allowed n (a .bounds) (cells (now (a .records))) (a .o) (register (now (a .registers)) (a .r)) ≡ not t)
 tested c e n h =
-    let a = c .before .before .before .args in
-    let same = rw (read-back (c .before .v .given)) at (c .allows .ensures) in
+    let a = start c .args in
+    let same = rw (read-back (value c .v .given)) at (c .allows .ensures) in
     allowed-at n (a .bounds) (cells (now (a .records))) (a .o) h (register (now (a .registers)) (a .r))
     ∙ sym same ∙ sym (Bool·not-not (c .allows .result)) ∙ ap not e
 
@@ -29,6 +37,12 @@ mul-v c = search needs
 element-copy-out-v : tie.Need-element-copy-out-v
 element-copy-out-v c = search needs
 
+mul-at : tie.Need-mul-at
+mul-at c = search needs
+
+add-at : tie.Need-add-at
+add-at c = search needs
+
 allows-requires : tie.Need-allows-requires
 allows-requires c κs = search needs
 
@@ -37,7 +51,7 @@ stop-requires c κs = search needs
 
 returns : tie.Need-returns
 returns c =
-    let s = c .before .before .before .before .before in
+    let s = start (c .before .before) in
     let a = s .args in
     let p = s .pre in
     let no-store = tested (c .before .before) (c .before .if1 .taken) in (
@@ -66,32 +80,32 @@ advance-requires c κs = search needs
 returns-2 : tie.Need-returns-2
 returns-2 c =
     let tests = c .before .before .before .before in
-    let s = tests .before .before .before .before in
+    let s = start (tests .before) in
     let a = s .args in
     let p = s .pre in
     let f = c .before .before .find in
     let k = p .0 .writes in
     let h = p .1 in (
-      λ n vs ro rv o-low. rw (read-back (tests .before .before .v .given)) (store-again (table-of vs (allowed n (a .bounds) (cells (now (a .records))))) (a .c) (now (a .registers)) ro rv (now (a .wo)) (now (a .wv)) (a .o) (f .result) (register (now (a .registers)) (a .r)) (tested (tests .before) (tests .if1 .left) n o-low) (f .ensures) (omega arith) (p .4) (c .advance .result) (c .before .if2 .taken) (c .advance .ensures)),
+      λ n vs ro rv o-low. rw (read-back (value (tests .before) .v .given)) (store-again (table-of vs (allowed n (a .bounds) (cells (now (a .records))))) (a .c) (now (a .registers)) ro rv (now (a .wo)) (now (a .wv)) (a .o) (f .result) (register (now (a .registers)) (a .r)) (tested (tests .before) (tests .if1 .left) n o-low) (f .ensures) (omega arith) (p .4) (c .advance .result) (c .before .if2 .taken) (c .advance .ensures)),
       (bounded-advanced 0 (a .c) (c .advance .result) (c .advance .ensures) (p .0), room-set (now (a .wo)) (now (a .wv)) (f .result) (a .o) _ (p .4)),
     )
 
-add-t12 : tie.Need-add-t12
-add-t12 c = search needs
+add-t13 : tie.Need-add-t13
+add-t13 c = search needs
 
-add-t23 : tie.Need-add-t23
-add-t23 c = search needs
+add-t24 : tie.Need-add-t24
+add-t24 c = search needs
 
 returns-3 : tie.Need-returns-3
 returns-3 c =
     let tests = c .before .before .before .before in
-    let s = tests .before .before .before .before in
+    let s = start (tests .before) in
     let a = s .args in
     let p = s .pre in
     let f = c .before .before .find in
     let k = p .0 .writes in
     let h = p .1 in (
-      λ n vs ro rv o-low. rw (read-back (tests .before .before .v .given)) (store-new (table-of vs (allowed n (a .bounds) (cells (now (a .records))))) (a .c) (now (a .registers)) ro rv (now (a .wo)) (now (a .wv)) (a .o) (f .result) (register (now (a .registers)) (a .r)) (tested (tests .before) (tests .if1 .left) n o-low) (f .ensures) (omega arith) (p .4) (c .before .if2 .left)),
+      λ n vs ro rv o-low. rw (read-back (value (tests .before) .v .given)) (store-new (table-of vs (allowed n (a .bounds) (cells (now (a .records))))) (a .c) (now (a .registers)) ro rv (now (a .wo)) (now (a .wv)) (a .o) (f .result) (register (now (a .registers)) (a .r)) (tested (tests .before) (tests .if1 .left) n o-low) (f .ensures) (omega arith) (p .4) (c .before .if2 .left)),
       (record { reads = omega (arith, p .0 .reads); writes = omega arith }, room-set (now (a .wo)) (now (a .wv)) (f .result) (a .o) _ (p .4)),
     )
 
@@ -101,6 +115,8 @@ store-spec =
     (tie.spec
     mul-v
     element-copy-out-v
+    mul-at
+    add-at
     allows-requires
     stop-requires
     returns
@@ -111,6 +127,6 @@ store-spec =
     element-set-from-v
     advance-requires
     returns-2
-    add-t12
-    add-t23
+    add-t13
+    add-t24
     returns-3)

@@ -1,10 +1,10 @@
--- `shape_row::allows` meets its contract: both tests of `inside`, on the bounds as they are read.
+-- `execution::allows`: both tests of `inside`, on the bounds as they are read.
 use borrow.Author.Needs.{needs}
 use mir.Facts.{toZ-ofZ}
-use Rattle.execution.specs.Bounds.{inside}
 use Rattle.cells.specs.Signed.{told}
-use Rattle.shape_row.proofs.allows.Statement.{statement}
-use Rattle.shape_row.proofs.allows.Tie as tie
+use Rattle.execution.specs.Bounds.{inside}
+use Rattle.execution.proofs.allows.Statement.{statement}
+use Rattle.execution.proofs.allows.Tie as tie
 
 get-signed-requires : tie.Need-get-signed-requires
 get-signed-requires c κs = search needs
