@@ -1,7 +1,7 @@
 // Opening: both lent areas are filled, whatever is in them, with the replica of the start values, their bounds and the start timestamp.
 use model::Limits;
 ghost use mathlib.Core.Path.{_≡_};
-ghost use mathlib.Core.Bool.{not};
+ghost use mathlib.Core.Bool.{true, not};
 ghost use lib.ListN.{length};
 ghost use Rattle.model.specs.Lists.{all₂};
 ghost use Rattle.model.specs.Calls.{by-values, miscounted, bounds-from, starts-inside};
@@ -29,8 +29,32 @@ pub fn counts_ok(l: Limits, n: usize, values: &[i64], lower: &[i64], upper: &[i6
     upper.len() == n
 }
 
+// What is missing to the widest bounds. Where it is 0, the value is inside them, whatever it is: it is not looked at.
+fn short_of_widest(value: i64, lower: i64, upper: i64) -> u64
+    ensures { λ r. ⌜ (r ≡ 0 → starts-inside (record { lower = lower; upper = upper }) value ≡ true) ⌝ }
+{
+    let below = std::num::wrapping_sub_u64(cells::unsigned(lower), 0x8000_0000_0000_0000);
+    let above = std::num::wrapping_sub_u64(0x7fff_ffff_ffff_ffff, cells::unsigned(upper));
+    below | above
+}
+
+// Are all bounds the widest, as those of a replica that is opened without any? Where it is true, every start value lies inside; else nothing is said.
+// An OR over all, with no early exit, so that LLVM makes vectors of it: it takes half the time of the tests one by one.
+fn all_widest(values: &[i64], lower: &[i64], upper: &[i64]) -> bool
+    requires { ⌜ (length (now lower) ≡ length (now values)) × (length (now upper) ≡ length (now values)) ⌝ }
+    ensures { λ r. ⌜ (r ≡ true → all₂ starts-inside (bounds-from (now (lower .entry)) (now (upper .entry))) (now (values .entry)) ≡ true) ⌝ }
+{
+    let mut missing: u64 = 0;
+    let mut i = 0;
+    while i < values.len() {
+        missing = missing | short_of_widest(values[i], lower[i], upper[i]);
+        i += 1;
+    }
+    missing == 0
+}
+
 // Does every start value lie inside its bounds? Then no lower bound is above its upper one either. Value by value, up to the first that does not.
-pub fn starts_inside(values: &[i64], lower: &[i64], upper: &[i64]) -> bool
+fn each_inside(values: &[i64], lower: &[i64], upper: &[i64]) -> bool
     requires { ⌜ (length (now lower) ≡ length (now values)) × (length (now upper) ≡ length (now values)) ⌝ }
     ensures { λ r. ⌜ r ≡ all₂ starts-inside (bounds-from (now (lower .entry)) (now (upper .entry))) (now (values .entry)) ⌝ }
 {
@@ -46,6 +70,17 @@ pub fn starts_inside(values: &[i64], lower: &[i64], upper: &[i64]) -> bool
         i += 1;
     }
     true
+}
+
+// The same, and quickly where the bounds are the widest: nothing is outside them.
+pub fn starts_inside(values: &[i64], lower: &[i64], upper: &[i64]) -> bool
+    requires { ⌜ (length (now lower) ≡ length (now values)) × (length (now upper) ≡ length (now values)) ⌝ }
+    ensures { λ r. ⌜ r ≡ all₂ starts-inside (bounds-from (now (lower .entry)) (now (upper .entry))) (now (values .entry)) ⌝ }
+{
+    if all_widest(values, lower, upper) {
+        return true;
+    }
+    each_inside(values, lower, upper)
 }
 
 // Writes each object's one version and its bounds; the objects are zeros.
