@@ -39,7 +39,7 @@ pub fn is_finished(body: &[u8], counter: usize, outcome: usize) -> bool
     0 < outcome
 }
 
-// May an object whose bounds stand from this cell on, the lower one first, take the value? One at a bound is inside. Both tests without a branch.
+// May an object whose bounds stand from this cell on, the lower one first, take the value? One at a bound is inside.
 pub fn allows(area: &[u8], lower: usize, value: i64) -> bool
     requires { ⌜ (lower + 2) * 8 ≤ length (now area) ⌝ }
     ensures { λ r. ⌜ r ≡ inside (bounds-from (cells (now (area .entry))) lower) value ⌝ }
@@ -49,7 +49,7 @@ pub fn allows(area: &[u8], lower: usize, value: i64) -> bool
     (low <= value) & (value <= high)
 }
 
-// Lays a write set over a table, the last entry first, so that the first entry of an object counts. Whatever each object may take stays.
+// Lays a write set over a table, the last entry first, so that the first entry of an object counts.
 pub fn overlay<'a>(table: &mut [i64], wo: &'a [usize; 16], wv: &'a [i64; 16], count: usize)
     requires { ⌜ (count ≤ capacity) × (every (sound (object-count (now table))) (entries count (now wo) (now wv)) ≡ true) ⌝ }
     ensures table { λ _. ⌜ ((allow : ℕ → ℤ → Bool) → table-of (now (table .exit)) allow

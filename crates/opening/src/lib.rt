@@ -110,7 +110,7 @@ fn put_objects(
     }
 }
 
-// One zero fill of each area, then the cells that are not 0. The record area last: it is at hand then, and both are more than the nearest cache holds.
+// One zero fill of each area, then the cells that are not 0. The record area last: it is at hand then where the first cache has 32 KB, less than both.
 pub fn fill(
     records: &mut [u8],
     bodies: &mut [u8],

@@ -7,7 +7,7 @@ ghost use Rattle.operation.specs.Body.{body-length, size, allowed-at, each};
 ghost use Rattle.operation.specs.Columns.{most-operations};
 ghost use Rattle.operation_plain.specs.Plain.{Sound, forbidden-in};
 
-// What a constant of this kind has that is to be 0: all of it, but for a set's. No branch, and quicker than a mask from an array.
+// What a constant of this kind has that is to be 0: all of it, but for a set's. Quicker than a mask from an array.
 fn forbidden(kind: usize, constant: u64) -> u64
     ensures { λ r. ⌜ r ≡ forbidden-in kind constant ⌝ }
 {

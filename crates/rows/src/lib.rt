@@ -76,8 +76,8 @@ pub fn load_row(
     }
 }
 
-// Lays a row's writes over a table, the last entry first, so that the first entry of an object counts. The row is not loaded for it: work and the
-// walk need no more of most rows.
+// Lays a row's writes over a table, the last entry first, so that the first entry of an object counts. The row is not loaded for it: work needs
+// no more of most rows.
 pub fn overlay_writes(row: &[u8], table: &mut [i64])
     requires { ⌜ Readable (now row) ⌝ }
     requires { ⌜ every (sound (object-count (now table))) (run-in (cells (now row)) .writes) ≡ true ⌝ }

@@ -43,8 +43,10 @@ returns c =
     let l = c .before .before .before .before in
     let a = l .before .args in
     let p = l .before .pre in
+    let v : mag (getD (a .values .now) (l .loop .i) (pos 0)) < 2 ^ 63 = c .before .before .v .given in
+    let lo : mag (getD (a .lower .now) (l .loop .i) (pos 0)) < 2 ^ 63 = c .before .if12 .given in
     sym (l .loop .inv .1 (p .0) (p .1) ∙ starts-below (a .values .now) (a .lower .now) (a .upper .now) (p .0) (p .1) (l .loop .i) (c .before .before .before .loop-test .taken)
-    (rw (read-back (c .before .before .v .given), read-back (c .before .if12 .given)) at (c .if1 .taken)))
+    (rw (read-back v, read-back lo) at (c .if1 .taken)))
 
 mul-if2 : tie.Need-mul-if2 Inv-loop μ-loop
 mul-if2 c = search needs
@@ -59,9 +61,10 @@ returns-2 c =
     let a = l .before .args in
     let p = l .before .pre in
     let v : mag (getD (a .values .now) (l .loop .i) (pos 0)) < 2 ^ 63 = at-if1 .before .before .v .given in
+    let lo : mag (getD (a .lower .now) (l .loop .i) (pos 0)) < 2 ^ 63 = at-if1 .before .if12 .given in
     let hi : mag (getD (a .upper .now) (l .loop .i) (pos 0)) < 2 ^ 63 = c .before .if22 .given in
     sym (l .loop .inv .1 (p .0) (p .1) ∙ starts-above (a .values .now) (a .lower .now) (a .upper .now) (p .0) (p .1) (l .loop .i) (at-if1 .before .before .before .loop-test .taken)
-    (rw (read-back v, read-back (at-if1 .before .if12 .given)) at (at-if1 .if1 .left)) (rw (read-back hi, read-back v) at (c .if2 .taken)))
+    (rw (read-back v, read-back lo) at (at-if1 .if1 .left)) (rw (read-back hi, read-back v) at (c .if2 .taken)))
 
 add-i : tie.Need-add-i Inv-loop μ-loop
 add-i c = search needs
@@ -76,10 +79,11 @@ loop-again c =
     let a = l .before .args in
     let p = l .before .pre in
     let v : mag (getD (a .values .now) (l .loop .i) (pos 0)) < 2 ^ 63 = at-if1 .before .before .v .given in
+    let lo : mag (getD (a .lower .now) (l .loop .i) (pos 0)) < 2 ^ 63 = at-if1 .before .if12 .given in
     let hi : mag (getD (a .upper .now) (l .loop .i) (pos 0)) < 2 ^ 63 = c .before .if22 .given in (
       omega arith,
       λ lows highs. l .loop .inv .1 lows highs ∙ starts-next (a .values .now) (a .lower .now) (a .upper .now) lows highs (l .loop .i) (at-if1 .before .before .before .loop-test .taken)
-          (rw (read-back v, read-back (at-if1 .before .if12 .given)) at (at-if1 .if1 .left)) (rw (read-back hi, read-back v) at (c .if2 .left)),
+          (rw (read-back v, read-back lo) at (at-if1 .if1 .left)) (rw (read-back hi, read-back v) at (c .if2 .left)),
     )
 
 returns-3 : tie.Need-returns-3 Inv-loop μ-loop
