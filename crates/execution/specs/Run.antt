@@ -17,10 +17,11 @@ pub record Table : Type 0 where
   pub look : ℕ → ℤ
   pub allow : ℕ → ℤ → Bool
 
--- a list of values as a table, with what each object may take; past its end the value is 0
+-- an object's value in a list of values; past its end 0
 abbrev pub value-of : List ℤ → ℕ → ℤ
 value-of vs o = getD vs o (pos 0)
 
+-- such a list as a table, with what each object may take
 abbrev pub table-of : List ℤ → (ℕ → ℤ → Bool) → Table
 table-of vs allow = record { look = value-of vs; allow = allow }
 

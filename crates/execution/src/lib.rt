@@ -1,5 +1,5 @@
-// How far a run of a transaction's body has come, and what its sets say beside a table (document 01, "A job's body"). The definitions and laws of
-// runs are in specs/. Registers and both sets stand in lent arrays; four counts go by value.
+// How far a run of a transaction's body has come, what its sets say beside a table (document 01, "A job's body"), and the bounds of a lent one. The
+// definitions and laws of runs are in specs/. Registers and both sets stand in lent arrays; four counts go by value.
 ghost use mathlib.Core.Path.{_≡_};
 ghost use mathlib.Core.Bool.{Bool, true};
 ghost use Prim.Native.Nat.{ℕ, _+_, _*_, _<_, _≤_};
@@ -8,7 +8,7 @@ ghost use lib.ListN.{length};
 ghost use Rattle.cells.specs.Cells.{cells};
 ghost use Rattle.operation.specs.Body.{operations};
 ghost use Rattle.execution.specs.Bounds.{inside};
-ghost use Rattle.execution.specs.LentTable.{bounds-from};
+ghost use Rattle.execution.specs.LentTable.{cell-bounds};
 ghost use Rattle.execution.specs.Run.{table-of, object-count, is-none, due-at, over};
 ghost use Rattle.execution.specs.RunShape.{every, sound};
 ghost use Rattle.execution.specs.Arrays.{capacity, entries};
@@ -42,7 +42,7 @@ pub fn is_finished(body: &[u8], counter: usize, outcome: usize) -> bool
 // May an object whose bounds stand from this cell on, the lower one first, take the value? One at a bound is inside.
 pub fn allows(area: &[u8], lower: usize, value: i64) -> bool
     requires { ⌜ (lower + 2) * 8 ≤ length (now area) ⌝ }
-    ensures { λ r. ⌜ r ≡ inside (bounds-from (cells (now (area .entry))) lower) value ⌝ }
+    ensures { λ r. ⌜ r ≡ inside (cell-bounds (cells (now (area .entry))) lower) value ⌝ }
 {
     let low = cells::get_signed(area, lower);
     let high = cells::get_signed(area, lower + 1);

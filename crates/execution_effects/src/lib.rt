@@ -11,7 +11,7 @@ ghost use lib.IntN.{ℤ};
 ghost use lib.ListN.{length, set};
 ghost use Rattle.cells.specs.Cells.{cells};
 ghost use Rattle.execution.specs.Run.{Table, table-of, object-count, apply, get as get-move, put as put-move, register};
-ghost use Rattle.execution.specs.LentTable.{bounds-cell, allowed};
+ghost use Rattle.execution.specs.LentTable.{bounds-cell, lent-allowed};
 ghost use Rattle.execution.specs.Arrays.{capacity, run-of-arrays, Room, Bounded};
 ghost use Rattle.execution_effects.specs.Effects.{advanced, stopped, settled, Found};
 
@@ -122,7 +122,7 @@ pub fn load<'a>(
 
 // A value outside the object's bounds stops the run. An object stored again keeps its place and takes the new value.
 pub fn store(
-    records: &[u8],
+    area: &[u8],
     bounds: BoundsAt,
     registers: &[i64; 4],
     wo: &mut [usize; 16],
@@ -131,17 +131,17 @@ pub fn store(
     r: usize,
     o: usize,
 ) -> Counts
-    requires { ⌜ Bounded c × (c .counter < capacity) × (r < 4) × ((bounds-cell bounds o + 2) * 8 ≤ length (now records)) × Room (now wo) (now wv) ⌝ }
+    requires { ⌜ Bounded c × (c .counter < capacity) × (r < 4) × ((bounds-cell bounds o + 2) * 8 ≤ length (now area)) × Room (now wo) (now wv) ⌝ }
     ensures run { λ t. ⌜ ((n : ℕ) (vs : List ℤ) (ro : List ℕ) (rv : List ℤ) → o < n
         → run-of-arrays t (now (registers .entry)) ro rv (now (wo .exit)) (now (wv .exit))
-        ≡ apply (table-of vs (allowed n bounds (cells (now (records .entry))))) (put-move o (register (now (registers .entry)) r))
+        ≡ apply (table-of vs (lent-allowed n bounds (cells (now (area .entry))))) (put-move o (register (now (registers .entry)) r))
         (run-of-arrays c (now (registers .entry)) ro rv (now (wo .entry)) (now (wv .entry)))) ⌝ }
     ensures bounded { λ t. ⌜ Bounded t ⌝ }
     ensures room { λ _. ⌜ Room (now (wo .exit)) (now (wv .exit)) ⌝ }
 {
     let v = registers[r];
     let at = bounds.first + o * bounds.stride;
-    if !execution::allows(records, at, v) {
+    if !execution::allows(area, at, v) {
         return stop(c, 3);
     }
     let n = c.writes;

@@ -84,7 +84,7 @@ fn run_again(
 {
     let mut table: [i64; 128] = [0; 128];
     let n = rows::committed_values(records, l, &mut table);
-    let bounds = rows::bounds_at(l);
+    let bounds = rows::bounds_place(l);
     let mut ro: [usize; 16] = [0; 16];
     let mut rv: [i64; 16] = [0; 16];
     execution_interpreter::run(&table[..n], records, bounds, body, &mut ro, &mut rv, wo, wv)

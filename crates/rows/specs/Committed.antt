@@ -17,7 +17,7 @@ use Rattle.cells.specs.Cells.{cells}
 use Rattle.execution.specs.declared.BoundsAt.{BoundsAt}
 use Rattle.execution.specs.Bounds.{Bounds, no-bounds, inside}
 use Rattle.execution.specs.Run.{value-of, table-of, object-count}
-use Rattle.execution.specs.LentTable.{bounds-cell, bounds-at, bounds-of, allowed, lent-table, BoundsWithin}
+use Rattle.execution.specs.LentTable.{bounds-cell, object-bounds, lent-bounds, lent-allowed, lent-table, BoundsWithin}
 use Rattle.model.specs.declared.Limits.{Limits}
 use Rattle.model.specs.Serial.{Version, no-version}
 use Rattle.model.specs.Replica.{Replica, newest, committed-table}
@@ -77,7 +77,7 @@ pair-same : {a b x y : ℤ} → a ≡ b → x ≡ y → _≡_ {A = Bounds} (reco
 pair-same e f j = record { lower = e j; upper = f j }
 
 module _ (l : Limits) (s : Sane l) (b : List ℕ) (u : Replica) (h : Holds l b u) where
-  pub bounds-back : (i : ℕ) → i < length (u .objects) → bounds-at (bounds-place l) (cells b) i ≡ getD (u .bounds) i no-bounds
+  pub bounds-back : (i : ℕ) → i < length (u .objects) → object-bounds (bounds-place l) (cells b) i ≡ getD (u .bounds) i no-bounds
   bounds-back i k =
       let g = all-in BoundsFit (u .bounds) i no-bounds (h .fits .bounds .1) (omega (arith, h .fits .bounds .0)) in
       let upper : bounds-cell (bounds-place l) i + 1 ≡ object-at l i + upper-at l = omega arith in
@@ -87,14 +87,14 @@ module _ (l : Limits) (s : Sane l) (b : List ℕ) (u : Replica) (h : Holds l b u
       read e = ap (λ (a : ℕ). toZ w64 (getD (cells b) a 0)) e
 
   -- the bounds of the objects, and of any other none
-  bounds-there : (o : ℕ) → bounds-of (length (u .objects)) (bounds-place l) (cells b) o ≡ getD (u .bounds) o no-bounds
+  bounds-there : (o : ℕ) → lent-bounds (length (u .objects)) (bounds-place l) (cells b) o ≡ getD (u .bounds) o no-bounds
   bounds-there o = go′ (ltb o (length (u .objects))) refl
     where
-      go′ : (t : Bool) → ltb o (length (u .objects)) ≡ t → cond t (bounds-at (bounds-place l) (cells b) o) no-bounds ≡ getD (u .bounds) o no-bounds
+      go′ : (t : Bool) → ltb o (length (u .objects)) ≡ t → cond t (object-bounds (bounds-place l) (cells b) o) no-bounds ≡ getD (u .bounds) o no-bounds
       go′ true e = bounds-back o (ltb-true o (length (u .objects)) e)
       go′ false e = let m = ltb-false o (length (u .objects)) e in sym (List·getD-eq-default (u .bounds) no-bounds (omega (arith, h .fits .bounds .0)))
 
-  pub allowed-back : allowed (length (u .objects)) (bounds-place l) (cells b) ≡ committed-table u .allow
+  pub allowed-back : lent-allowed (length (u .objects)) (bounds-place l) (cells b) ≡ committed-table u .allow
   allowed-back = fun-ext (λ o. ap inside (bounds-there o))
 
   pub bounds-within : BoundsWithin (bounds-place l) (length (u .objects)) (length b)
@@ -145,6 +145,6 @@ module _ (l : Limits) (s : Sane l) (b : List ℕ) (u : Replica) (h : Holds l b u
       -- with the bounds where they stand
       pub committed-lent : lent-table (take n ts) (bounds-place l) (cells b) ≡ committed-table u
       committed-lent =
-          ap (λ (k : ℕ). table-of (take n ts) (allowed k (bounds-place l) (cells b))) committed-count
+          ap (λ (k : ℕ). table-of (take n ts) (lent-allowed k (bounds-place l) (cells b))) committed-count
           ∙ ap (table-of (take n ts)) allowed-back
           ∙ committed-back

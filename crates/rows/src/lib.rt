@@ -114,7 +114,7 @@ pub fn committed_values(records: &[u8], l: Limits, table: &mut [i64; 128]) -> us
 }
 
 // Where the bounds of the objects stand in the record area.
-pub fn bounds_at(l: Limits) -> BoundsAt
+pub fn bounds_place(l: Limits) -> BoundsAt
     requires { ⌜ Sane l ⌝ }
     ensures { λ p. ⌜ p ≡ bounds-place l ⌝ }
 {

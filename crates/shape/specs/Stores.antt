@@ -9,7 +9,7 @@ use lib.Seq.{getD-take, getD-drop}
 use mir.Syntax.{w64}
 use mir.Val.{toZ}
 use Rattle.execution.specs.Bounds.{Bounds, no-bounds, inside}
-use Rattle.execution.specs.LentTable.{bounds-from}
+use Rattle.execution.specs.LentTable.{cell-bounds}
 use Rattle.model.specs.ShapeCheck.{stores-inside}
 use Rattle.versions.specs.Block.{width, object-cells, bounds-at}
 use Rattle.layout.specs.Rows.{chunks}
@@ -21,13 +21,13 @@ use Rattle.shape.specs.Leaves.{object-of}
 
 -- bs are the bounds that the cells os of n objects say
 abbrev pub Said : ℕ → ℕ → List ℕ → List Bounds → Type 0
-Said n readers os bs = (o : ℕ) → o < n → bounds-from os (bound-cell readers o) ≡ getD bs o no-bounds
+Said n readers os bs = (o : ℕ) → o < n → cell-bounds os (bound-cell readers o) ≡ getD bs o no-bounds
 
 -- ---- the bounds of n objects, one after another
 
 module _ (readers : ℕ) where
   -- those of the first
-  first-bounds : (os : List ℕ) → bounds-from os (width readers) ≡ bounds-at readers (take (object-cells readers) os)
+  first-bounds : (os : List ℕ) → cell-bounds os (width readers) ≡ bounds-at readers (take (object-cells readers) os)
   first-bounds os i =
       record { lower = toZ w64 (cell (width readers) (omega arith) i); upper = toZ w64 (cell (width readers + 1) (omega arith) i) }
     where
@@ -35,7 +35,7 @@ module _ (readers : ℕ) where
       cell k h = sym (getD-take (object-cells readers) os k 0 h)
 
   -- those of the others, which begin behind it
-  later-bounds : (os : List ℕ) (o : ℕ) → bounds-from os (bound-cell readers (suc o)) ≡ bounds-from (drop (object-cells readers) os) (bound-cell readers o)
+  later-bounds : (os : List ℕ) (o : ℕ) → cell-bounds os (bound-cell readers (suc o)) ≡ cell-bounds (drop (object-cells readers) os) (bound-cell readers o)
   later-bounds os o i =
       record { lower = toZ w64 (cell (bound-cell readers o) (bound-cell readers (suc o)) (omega arith) i); upper = toZ w64 (cell (bound-cell readers o + 1) (bound-cell readers (suc o) + 1) (omega arith) i) }
     where
@@ -47,7 +47,7 @@ module _ (readers : ℕ) where
   bounds-are-said zero os o h = absurd (omega arith)
   bounds-are-said (suc n) os zero h =
       let z : bound-cell readers 0 ≡ width readers = omega arith in
-      ap (bounds-from os) z ∙ first-bounds os
+      ap (cell-bounds os) z ∙ first-bounds os
   bounds-are-said (suc n) os (suc o) h = later-bounds os o ∙ bounds-are-said n (drop (object-cells readers) os) o (omega arith)
 
 -- ---- k entries that name objects below n

@@ -2,8 +2,8 @@
 // is sound and no more: what passes meets the shape check's rules. `alone`, for no open reader, and `bounds_ok`, for the bounds, decide.
 //
 // Why it is quick: the number of versions is a literal at each call, so that the versions and the cells behind them are straight code; the oldest
-// version is held by the earliest open reader or by none; in between an index goes down the sorted readers as the versions get older; and that a value
-// is inside the bounds is one comparison of differences modulo 2^64.
+// version is held by the earliest open reader or by none; in between an index goes down the sorted readers as the versions get older; and that an
+// older value is inside the bounds is one comparison of differences modulo 2^64.
 ghost use mathlib.Core.Path.{_≡_};
 ghost use mathlib.Core.Bool.{true, _&&_};
 ghost use mathlib.Core.List.{List, []};

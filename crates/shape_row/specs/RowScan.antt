@@ -11,7 +11,7 @@ use mir.Val.{toZ}
 use Rattle.cells.specs.Zeros.{zeros}
 use Rattle.operation.specs.Body.{body-length, size, is-well-formed}
 use Rattle.execution.specs.Bounds.{inside}
-use Rattle.execution.specs.LentTable.{bounds-from}
+use Rattle.execution.specs.LentTable.{cell-bounds}
 use Rattle.model.specs.Calls.{clients}
 use Rattle.shape_names.specs.NameScan.{names-in}
 use Rattle.versions.specs.Block.{width, object-cells}
@@ -58,7 +58,7 @@ body-in most n y =
 unfoldable pub stores-in : ℕ → List ℕ → ℕ → List ℕ → Bool
 stores-in readers os zero xs = true
 stores-in readers os (suc k) xs =
-    inside (bounds-from os (bound-cell readers (getD xs 0 0))) (toZ w64 (getD xs 1 0)) && stores-in readers os k (drop 2 xs)
+    inside (cell-bounds os (bound-cell readers (getD xs 0 0))) (toZ w64 (getD xs 1 0)) && stores-in readers os k (drop 2 xs)
 
 -- reads, writes, whose values lie inside their objects' bounds, and the zeros behind them: r reads, e of both
 unfoldable pub sets-in : ℕ → List ℕ → ℕ → ℕ → ℕ → List ℕ → Bool

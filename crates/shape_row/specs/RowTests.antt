@@ -19,7 +19,7 @@ use Rattle.operation.specs.declared.Decoded.the-variants.{WellFormed, Malformed
 use Rattle.operation.specs.Body.{size, is-well-formed, decoded}
 use Rattle.operation.specs.BodyLaws.{formed, taken, refused}
 use Rattle.execution.specs.Bounds.{inside}
-use Rattle.execution.specs.LentTable.{bounds-from}
+use Rattle.execution.specs.LentTable.{cell-bounds}
 use Rattle.execution.specs.ReadAgreement.{both}
 use Rattle.model.specs.Calls.{clients}
 use Rattle.layout.specs.Offsets.{entry-at}
@@ -75,12 +75,12 @@ zeros-rest xs n f e = ap zeros (cells-rest n xs e f)
 
 module _ (readers : ℕ) (os : List ℕ) (left at : ℕ) (cs : List ℕ) where
   stores-next : 0 < left → stores-in readers os left (drop at cs)
-      ≡ inside (bounds-from os (bound-cell readers (getD cs at 0))) (toZ w64 (getD cs (at + 1) 0)) && stores-in readers os (left - 1) (drop (at + 2) cs)
+      ≡ inside (cell-bounds os (bound-cell readers (getD cs at 0))) (toZ w64 (getD cs (at + 1) 0)) && stores-in readers os (left - 1) (drop (at + 2) cs)
   unfolding stores-in
   stores-next h = go′ left h
     where
       go′ : (left : ℕ) → 0 < left → stores-in readers os left (drop at cs)
-          ≡ inside (bounds-from os (bound-cell readers (getD cs at 0))) (toZ w64 (getD cs (at + 1) 0)) && stores-in readers os (left - 1) (drop (at + 2) cs)
+          ≡ inside (cell-bounds os (bound-cell readers (getD cs at 0))) (toZ w64 (getD cs (at + 1) 0)) && stores-in readers os (left - 1) (drop (at + 2) cs)
       go′ zero h = absurd (omega arith)
       go′ (suc k) h =
           let z : at + 0 ≡ at = omega arith in
@@ -88,7 +88,7 @@ module _ (readers : ℕ) (os : List ℕ) (left at : ℕ) (cs : List ℕ) where
           rw (getD-drop at cs 0 0, getD-drop at cs 1 0, z, drop-drop 2 at cs, s)
 
   -- the entry's object o, whose lower bound is cell i, its value v, and whether the object may take it
-  module _ (h : 0 < left) (o : ℕ) (oe : o ≡ getD cs at 0) (i : ℕ) (ie : i ≡ bound-cell readers o) (v : ℤ) (ve : v ≡ toZ w64 (getD cs (at + 1) 0)) (p : Bool) (e : p ≡ inside (bounds-from os i) v) where
+  module _ (h : 0 < left) (o : ℕ) (oe : o ≡ getD cs at 0) (i : ℕ) (ie : i ≡ bound-cell readers o) (v : ℤ) (ve : v ≡ toZ w64 (getD cs (at + 1) 0)) (p : Bool) (e : p ≡ inside (cell-bounds os i) v) where
     tested : stores-in readers os left (drop at cs) ≡ p && stores-in readers os (left - 1) (drop (at + 2) cs)
     tested = stores-next h ∙ rw (← oe, ← ie, ← ve, ← e)
 

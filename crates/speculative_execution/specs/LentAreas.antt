@@ -12,7 +12,7 @@ use Rattle.cells.specs.Cells.{cells, uncells, Below}
 use Rattle.operation.specs.Body.{size, body-length}
 use Rattle.execution.specs.declared.BoundsAt.{BoundsAt}
 use Rattle.execution.specs.Run.{object-count}
-use Rattle.execution.specs.LentTable.{allowed, BoundsWithin}
+use Rattle.execution.specs.LentTable.{lent-allowed, BoundsWithin}
 use Rattle.execution.specs.Arrays.{capacity}
 use Rattle.model.specs.declared.Limits.{Limits}
 use Rattle.model.specs.Calls.{most-work}
@@ -29,7 +29,7 @@ use Rattle.layout.specs.Printable.{few-pending}
 use Rattle.rows.specs.Committed.{bounds-place, allowed-back, bounds-within}
 use Rattle.speculative_turn.specs.declared.Advanced.{Advanced}
 use Rattle.speculative_turn.specs.Advance.{Allow, Ready, Leaves}
-use Rattle.speculative_turn.specs.LentRow.{allow-in, ReadyAt, LeavesAt}
+use Rattle.speculative_turn.specs.AreaRow.{allow-in, ReadyAt, LeavesAt}
 use Rattle.speculative_execution.specs.Passing.{nobody, formed-at, bounded-by, Going, Worked, going-first, going-last, lent-row, turn-ready, turn-most, turn-next, turn-last}
 
 -- areas that passed the shape check, beside the committed table and a budget
@@ -114,7 +114,7 @@ module _ {l : Limits} {records bodies : List ℕ} {vs : List ℤ} {budget : ℕ}
       -- the bounds in the area, which has only rows changed, are the committed ones
       allow-here : {p : BoundsAt} → p ≡ bounds-place l → allow-in here p ts ≡ committed-table u₀ .allow
       allow-here ep =
-          ap₂ (λ (n : ℕ) (q : BoundsAt). allowed n q (cells here)) (k .size) ep ∙ allowed-back l (g .sane) here _ (k .holds)
+          ap₂ (λ (n : ℕ) (q : BoundsAt). lent-allowed n q (cells here)) (k .size) ep ∙ allowed-back l (g .sane) here _ (k .holds)
 
       pub lent-ready : {p : BoundsAt} → p ≡ bounds-place l → e * 8 ≤ length here → ReadyAt here p (r * 8) (e * 8) body-bytes ts left
       lent-ready {p} ep inside =

@@ -1,3 +1,3 @@
--- Advance: one transaction's turn, on its row. LentRow: the row as a part of the record area.
+-- Advance: one transaction's turn, on its row. AreaRow: the row as a part of the record area.
 pub mod Advance
-pub mod LentRow
+pub mod AreaRow

@@ -9,7 +9,7 @@ ghost use Rattle.operation.specs.Body.{operations};
 ghost use Rattle.execution.specs.Run.{ended};
 ghost use Rattle.rows.specs.RowRun.{Readable};
 ghost use Rattle.speculative_turn.specs.Advance.{before};
-ghost use Rattle.speculative_turn.specs.LentRow.{row-in, ReadyAt, LeavesAt};
+ghost use Rattle.speculative_turn.specs.AreaRow.{area-row, ReadyAt, LeavesAt};
 
 // What one transaction's turn comes to.
 pub struct Advanced {
@@ -30,7 +30,7 @@ fn resume(
     budget: usize,
 ) -> Advanced
     requires { ⌜ ReadyAt (now records) bounds row next (now body) (now table) budget ⌝ }
-    requires { ⌜ ended (operations (now body)) (before (row-in (now records) row next)) ≡ false ⌝ }
+    requires { ⌜ ended (operations (now body)) (before (area-row (now records) row next)) ≡ false ⌝ }
     ensures { λ a. ⌜ LeavesAt (now (records .entry)) bounds row next (now (body .entry)) (now (table .entry)) budget
         a (now (records .exit)) (now (table .exit)) ⌝ }
 {

@@ -9,7 +9,7 @@ use Rattle.final_delivery.proofs.run_again.Tie as tie
 abbrev start : tie.After-committed-values → tie.Start
 start k = k .before .before .before .before
 
-abbrev gathered : tie.After-bounds-at → tie.After-committed-values
+abbrev gathered : tie.After-bounds-place → tie.After-committed-values
 gathered k = k .before
 
 committed-values-requires : tie.Need-committed-values-requires
@@ -17,8 +17,8 @@ committed-values-requires c κs =
     let s = c .before .before .before in
     (s .pre .0 .0, rerun-laid (s .pre .0 .0) (s .pre .0 .1) (s .pre .1 .0), refl)
 
-bounds-at-requires : tie.Need-bounds-at-requires
-bounds-at-requires c κs = start c .pre .0 .0
+bounds-place-requires : tie.Need-bounds-place-requires
+bounds-place-requires c κs = start c .pre .0 .0
 
 array-share-prefix-table : tie.Need-array-share-prefix-table
 array-share-prefix-table c =
@@ -38,21 +38,21 @@ run-requires c κs =
     let g = gathered k in
     let s = start g in
     let v = g .committed-values .ensures in
-    ((values-formed (s .pre .0 .0) (s .pre .0 .1) (s .pre .1 .0) v, record { objects = refl; values = refl }, s .pre .1 .1), bounds-there (s .pre .0 .0) (s .pre .0 .1) (s .pre .1 .0) v (k .bounds-at .ensures))
+    ((values-formed (s .pre .0 .0) (s .pre .0 .1) (s .pre .1 .0) v, record { objects = refl; values = refl }, s .pre .1 .1), bounds-there (s .pre .0 .0) (s .pre .0 .1) (s .pre .1 .0) v (k .bounds-place .ensures))
 
 returns : tie.Need-returns
 returns c =
     let k = c .before .before .before .before .before .before in
     let g = gathered k in
     let s = start g in
-    record { ran = λ p. values-ran (s .pre .0 .0) (s .pre .0 .1) p (g .committed-values .ensures) (k .bounds-at .ensures) _ _ _ _ _ (c .run .ensures .0) }
+    record { ran = λ p. values-ran (s .pre .0 .0) (s .pre .0 .1) p (g .committed-values .ensures) (k .bounds-place .ensures) _ _ _ _ _ (c .run .ensures .0) }
 
 pub run-again-spec : {M : Type 1} → statement M
 run-again-spec =
     tie.close
     (tie.spec
     committed-values-requires
-    bounds-at-requires
+    bounds-place-requires
     array-share-prefix-table
     slice-aggregate-run
     run-requires

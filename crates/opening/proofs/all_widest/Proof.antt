@@ -1,6 +1,6 @@
 -- `opening::all_widest`. Invariant: if nothing is missing so far, the values passed are inside. The measure is the number of those to come.
 use Prim.Native.Nat.{ℕ, _≤_, _<_, _-_}
-use mathlib.Core.Path.{_≡_, sym, _∙_}
+use mathlib.Core.Path.{_≡_}
 use mathlib.Core.Bool.{true}
 use native.Mathlib.Omega.{arith}
 use lib.IntN.{pos}

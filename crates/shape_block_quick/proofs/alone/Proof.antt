@@ -6,7 +6,7 @@ use native.Mathlib.Omega.{arith}
 use lib.ListN.{getD, take}
 use borrow.Author.Needs.{needs}
 use Rattle.shape_block_quick.specs.Quick.{alone-count}
-use Rattle.shape_block_quick.specs.Objects.{block-part, block-length, object-no, object-by}
+use Rattle.shape_block_quick.specs.ObjectTests.{block-part, block-length, object-no, object-by}
 use Rattle.shape_block_quick.proofs.alone.Statement.{statement}
 use Rattle.shape_block_quick.proofs.alone.Tie as tie
 

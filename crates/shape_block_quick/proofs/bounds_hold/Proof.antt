@@ -8,7 +8,7 @@ use borrow.Author.Needs.{needs}
 use Rattle.execution.specs.Bounds.{ordered}
 use Rattle.versions.specs.Block.{width}
 use Rattle.shape_block_quick.specs.Difference.{bounds-of, order-by}
-use Rattle.shape_block_quick.specs.Objects.{block-length, bounds-no, bounds-by}
+use Rattle.shape_block_quick.specs.ObjectTests.{block-length, bounds-no, bounds-by}
 use Rattle.shape_block_quick.proofs.bounds_hold.Statement.{statement}
 use Rattle.shape_block_quick.proofs.bounds_hold.Tie as tie
 

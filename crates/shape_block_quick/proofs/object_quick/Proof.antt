@@ -7,7 +7,7 @@ use lib.ListN.{length, getD, take}
 use borrow.Author.Needs.{needs}
 use Rattle.cells.specs.Cells.{cells}
 use Rattle.versions.specs.Block.{width, block-of}
-use Rattle.shape_block_quick.specs.Objects.{block-part, block-length, object-by}
+use Rattle.shape_block_quick.specs.ObjectTests.{block-part, block-length, object-by}
 use Rattle.shape_block_quick.proofs.object_quick.Statement.{statement}
 use Rattle.shape_block_quick.proofs.object_quick.Tie as tie
 

@@ -3,7 +3,7 @@ use mathlib.Core.Path.{sym, _∙_}
 use native.Mathlib.Omega.{arith}
 use borrow.Author.Needs.{needs}
 use Rattle.cells.specs.Cells.{cells}
-use Rattle.shape_block_quick.specs.Objects.{block-length, object-no, object-by, object-room, object-some}
+use Rattle.shape_block_quick.specs.ObjectTests.{block-length, object-no, object-by, object-room, object-some}
 use Rattle.shape_versions.proofs.object_ok.Statement.{statement}
 use Rattle.shape_versions.proofs.object_ok.Tie as tie
 

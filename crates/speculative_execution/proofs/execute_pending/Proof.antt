@@ -92,8 +92,8 @@ body-bytes p = p .body-length .ensures ∙ ap body-length (p .before .small .ens
 -- ---- a turn
 
 -- the bounds' place
-placed : (lp : At) → lp .before .bounds-at .result ≡ bounds-place (start lp .args .l)
-placed lp = lp .before .bounds-at .ensures
+placed : (lp : At) → lp .before .bounds-place .result ≡ bounds-place (start lp .args .l)
+placed lp = lp .before .bounds-place .ensures
 
 most : (x : After) → x .advance .result .used ≤ head (prepared x) .loop .left
 most x =
@@ -116,8 +116,8 @@ pending-at-requires c κs = c .before .before .before .pre .sane
 get-requires : tie.Need-get-requires Inv-loop μ-loop
 get-requires c κs = omega (arith, c .pending-at .ensures .exact, lengths (c .before .before .before .before))
 
-bounds-at-requires : tie.Need-bounds-at-requires Inv-loop μ-loop
-bounds-at-requires c κs = c .before .before .before .before .before .pre .sane
+bounds-place-requires : tie.Need-bounds-place-requires Inv-loop μ-loop
+bounds-place-requires c κs = c .before .before .before .before .before .pre .sane
 
 loop-holds : tie.Need-loop-holds Inv-loop μ-loop
 loop-holds c =
@@ -238,7 +238,7 @@ execute-pending-spec =
     μ-loop
     pending-at-requires
     get-requires
-    bounds-at-requires
+    bounds-place-requires
     loop-holds
     row-at-requires
     mul-row

@@ -1,11 +1,11 @@
 -- `speculative_turn::advance`: a finished transaction's writes go over the table; any other is resumed.
-use mathlib.Core.Path.{_≡_, sym, _∙_}
+use mathlib.Core.Path.{sym, _∙_}
 use borrow.Author.Needs.{needs}
 use borrow.Rule.Slice.PartMut.{put-same}
 use denote.Ref.{now}
 use Prim.Native.Nat.{_-_}
 use Rattle.speculative_turn.specs.Advance.{some-body, idle-sound, idle}
-use Rattle.speculative_turn.specs.LentRow.{row-in, allow-in}
+use Rattle.speculative_turn.specs.AreaRow.{area-row, allow-in}
 use Rattle.speculative_turn.proofs.advance.Statement.{statement}
 use Rattle.speculative_turn.proofs.advance.Tie as tie
 
@@ -60,7 +60,7 @@ returns c =
     let a = s .args in
     let done = sym (test .is-finished .ensures) ∙ c .before .before .before .before .before .if1 .taken in
     record {
-      new-row = row-in (now (a .records)) (a .row) (a .next);
+      new-row = area-row (now (a .records)) (a .row) (a .next);
       leaves = idle (s .pre .ready) done (over .overlay-writes .last .1 .0) (over .overlay-writes .ensures .0 (allow-in (now (a .records)) (a .bounds) (now (a .table))));
       back = sym (put-same (a .row) (a .next - a .row) (now (a .records)));
     }

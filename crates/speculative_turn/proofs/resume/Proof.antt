@@ -1,11 +1,10 @@
 -- `speculative_turn::resume`: the row is loaded, its run carried on and stored; the writes of a finished one go over the table.
 use mathlib.Core.Path.{refl, sym, _∙_}
-use native.Mathlib.Omega.{arith}
 use borrow.Author.Needs.{needs}
 use denote.Ref.{now}
 use Rattle.operation.specs.Body.{register-count}
 use Rattle.speculative_turn.specs.Advance.{Ran, some-body, lent, unstopped, ran, storable, overlays, leaves}
-use Rattle.speculative_turn.specs.LentRow.{row-in, allow-in}
+use Rattle.speculative_turn.specs.AreaRow.{area-row, allow-in}
 use Rattle.speculative_turn.proofs.resume.Statement.{statement}
 use Rattle.speculative_turn.proofs.resume.Tie as tie
 
@@ -25,7 +24,7 @@ stored f = f .before .before .before
 
 -- the run after the operations, in the arrays
 carried : (e : tie.After-execute) → (let a = start (loaded e) .args in let x = e .execute .last .1 .1 .1 .1 in
-    Ran (row-in (now (a .records)) (a .row) (a .next)) (now (a .body)) (now (a .table)) (allow-in (now (a .records)) (a .bounds) (now (a .table))) (a .budget)
+    Ran (area-row (now (a .records)) (a .row) (a .next)) (now (a .body)) (now (a .table)) (allow-in (now (a .records)) (a .bounds) (now (a .table))) (a .budget)
     (e .execute .result) (x .0) (x .1 .0) (x .1 .1 .0) (x .1 .1 .1 .0) (x .1 .1 .1 .1 .0))
 carried e =
     let l = loaded e in

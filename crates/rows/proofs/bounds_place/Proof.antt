@@ -1,9 +1,9 @@
--- `rows::bounds_at`: both fields, as the layout has them.
+-- `rows::bounds_place`: both fields, as the layout has them.
 use mathlib.Core.Path.{ap₂}
 use Prim.Native.Nat.{_+_}
 use borrow.Author.Needs.{needs}
-use Rattle.rows.proofs.bounds_at.Statement.{statement}
-use Rattle.rows.proofs.bounds_at.Tie as tie
+use Rattle.rows.proofs.bounds_place.Statement.{statement}
+use Rattle.rows.proofs.bounds_place.Tie as tie
 
 object-at-requires : tie.Need-object-at-requires
 object-at-requires c κs = search needs
@@ -25,6 +25,6 @@ returns c =
     let e = ap₂ _+_ (a .ensures .exact) (b .ensures) in
     λ j. record { first = e j; stride = w j }
 
-pub bounds-at-spec : {M : Type 1} → statement M
-bounds-at-spec =
+pub bounds-place-spec : {M : Type 1} → statement M
+bounds-place-spec =
     tie.close (tie.spec object-at-requires bounds-at-requires add-t4 object-width-requires returns)

@@ -8,30 +8,30 @@ use borrow.Rule.Slice.PartMut.{midOf, putMid}
 use Rattle.cells.specs.Cells.{cells}
 use Rattle.execution.specs.declared.BoundsAt.{BoundsAt}
 use Rattle.execution.specs.Run.{object-count}
-use Rattle.execution.specs.LentTable.{allowed, BoundsWithin}
+use Rattle.execution.specs.LentTable.{lent-allowed, BoundsWithin}
 use Rattle.speculative_turn.specs.declared.Advanced.{Advanced}
 use Rattle.speculative_turn.specs.Advance.{Allow, Ready, Leaves}
 
 -- the row from byte `row` to byte `next`, and the area with another in its place
-abbrev pub row-in : List ℕ → ℕ → ℕ → List ℕ
-row-in records row next = midOf row (next - row) records
+abbrev pub area-row : List ℕ → ℕ → ℕ → List ℕ
+area-row records row next = midOf row (next - row) records
 
 abbrev pub with-row : List ℕ → ℕ → ℕ → List ℕ → List ℕ
 with-row records row next ys = putMid row (next - row) records ys
 
 -- what each object of a table may take, by the bounds in the area
 abbrev pub allow-in : List ℕ → BoundsAt → List ℤ → Allow
-allow-in records bounds vs = allowed (object-count vs) bounds (cells records)
+allow-in records bounds vs = lent-allowed (object-count vs) bounds (cells records)
 
 -- the row and every object's bounds lie in the area, and the row is ready for a turn
 pub record ReadyAt (records : List ℕ) (bounds : BoundsAt) (row next : ℕ) (body : List ℕ) (vs : List ℤ) (budget : ℕ) : Type 0 where
   pub order : row ≤ next
   pub inside : next ≤ length records
   pub bounded : BoundsWithin bounds (object-count vs) (length records)
-  pub ready : Ready (row-in records row next) body vs (allow-in records bounds vs) budget
+  pub ready : Ready (area-row records row next) body vs (allow-in records bounds vs) budget
 
 -- what a turn leaves: the area with a new row in its place, and the table
 pub record LeavesAt (records : List ℕ) (bounds : BoundsAt) (row next : ℕ) (body : List ℕ) (vs : List ℤ) (budget : ℕ) (a : Advanced) (left : List ℕ) (ws : List ℤ) : Type 0 where
   pub new-row : List ℕ
-  pub leaves : Leaves (row-in records row next) body vs (allow-in records bounds vs) budget a new-row ws
+  pub leaves : Leaves (area-row records row next) body vs (allow-in records bounds vs) budget a new-row ws
   pub back : left ≡ with-row records row next new-row
