@@ -17,7 +17,7 @@ use Rattle.execution.specs.Run.{Table, table-of, object-count}
 abbrev pub cell-bounds : List ℕ → ℕ → Bounds
 cell-bounds cs a = record { lower = toZ w64 (getD cs a 0); upper = toZ w64 (getD cs (a + 1) 0) }
 
--- where those of object o do
+-- where those of object o begin
 abbrev pub bounds-cell : BoundsAt → ℕ → ℕ
 bounds-cell p o = p .first + o * p .stride
 
