@@ -165,6 +165,7 @@ struct jobstore_committed {
 struct jobstore_value {
     uint32_t number;  /* 0, or the refusal */
     int64_t value;
+    uint32_t stamp;   /* of the commit that stored it; of an object untouched since the opening, the start stamp */
 };
 
 /* Find. */
@@ -221,8 +222,8 @@ struct jobstore_committed jobstore_final(uint8_t *record, size_t record_length, 
 uint32_t jobstore_open_reader(uint8_t *record, size_t record_length, const uint8_t *bodies, size_t bodies_length,
                               uint32_t reader);
 
-/* Read: an object's newest value that is not above the reader's stamp. Changes nothing.
- * Returns the value, or refusal 1, 10, 12, 13. */
+/* Read: an object's newest version that is not above the reader's stamp. Changes nothing.
+ * Returns the version's value and its stamp, or refusal 1, 10, 12, 13. */
 struct jobstore_value jobstore_read(const uint8_t *record, size_t record_length, const uint8_t *bodies, size_t bodies_length,
                                     uint32_t reader, uint32_t object);
 

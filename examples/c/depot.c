@@ -31,11 +31,12 @@ static struct jobstore_committed final(uint32_t client, uint32_t sequence)
     return jobstore_final(record, sizeof record, bodies, sizeof bodies, client, sequence);
 }
 
-static int64_t value(uint32_t reader, uint32_t object)
+static void see(const char *what, uint32_t reader, uint32_t object, struct jobstore_value due)
 {
     struct jobstore_value r = jobstore_read(record, sizeof record, bodies, sizeof bodies, reader, object);
-    say("  read, number", r.number, 0);
-    return r.value;
+    say(what, r.number, due.number);
+    say("  value", r.value, due.value);
+    say("  stamp", r.stamp, due.stamp);
 }
 
 /* A: object 0 gets 5 more. B: object 2 becomes what object 1 is. C: object 1 becomes what object 0 is. */
@@ -105,7 +106,7 @@ static void price(void)
     say("early price", early(5, 1, sixth, 3), 0);
     commit("final price", 5, 1, 0, 5);
     say("open reader 2", jobstore_open_reader(record, sizeof record, bodies, sizeof bodies, 2), 0);
-    say("object 2", value(2, 2), 2);
+    see("object 2", 2, 2, (struct jobstore_value){0, 2, 5});
 }
 
 /* Refused: 4, zeros beside it, and not a byte changed. */
@@ -149,11 +150,12 @@ int main(void)
     commit("final B", 2, 1, 0, 3);
     spent();
     say("open reader 1", jobstore_open_reader(record, sizeof record, bodies, sizeof bodies, 1), 0);
-    say("object 0", value(1, 0), 15);
-    say("object 1", value(1, 1), 10);
-    say("object 2", value(1, 2), 10);
-    say("object 0 as reader 0 sees it", value(0, 0), 10);
+    see("object 0", 1, 0, (struct jobstore_value){0, 15, 2});
+    see("object 1", 1, 1, (struct jobstore_value){0, 10, 1});
+    see("object 2", 1, 2, (struct jobstore_value){0, 10, 3});
+    see("object 0 as reader 0 sees it", 0, 0, (struct jobstore_value){0, 10, 0});
     say("close 0", jobstore_close_reader(record, sizeof record, bodies, sizeof bodies, 0), 0);
+    see("object 0, reader 0 closed", 0, 0, (struct jobstore_value){JOBSTORE_READER_CLOSED, 0, 0});
     commit("final B, next key", 2, 2, 0, 4);
     price();
     header();

@@ -2,16 +2,16 @@
 -- left them, from an accepted opening on areas with any contents (`Trace`). Assumes nothing.
 use mathlib.Core.Path.{_≡_, sym, subst}
 use mathlib.Core.Bool.{true, false}
-use mathlib.Core.List.{List, _∷_}
+use mathlib.Core.List.{List, [], _∷_}
 use Prim.Native.Nat.{ℕ, _<_}
-use lib.ListN.{length}
+use lib.ListN.{length, getD}
 use Rattle.model.specs.declared.Limits.{Limits}
 use Rattle.model.specs.Lists.{any}
-use Rattle.model.specs.Calls.{Call, open-reader, read, done, value}
+use Rattle.model.specs.Calls.{Call, open-reader, read, done, version}
 use Rattle.model.specs.Start.{start-of}
 use Rattle.model.specs.Serial as serial
 use Rattle.model.specs.Serial.{Serial}
-use Rattle.model.specs.Replica.{committed-table}
+use Rattle.model.specs.Replica.{newest}
 use Rattle.model.specs.ListLaws.{All}
 use Rattle.model.specs.ShapeKept.{Typed}
 use Rattle.model.specs.Serializability.{Serializable}
@@ -32,11 +32,12 @@ pub record Demand3 {l : Limits} (x : Trace l) : Type 0 where
   -- so two replicas with equal final deliveries agree, whatever their early orders: equal openings and accepted final deliveries, each key with its body,
   -- give equal results and committed tables, on areas of any two kinds, wherever the rest of either list fell
   pub agreement : {m : Limits} (y : Trace m) → history x ≡ history y → SameCommits (answers x, replica x) (answers y, replica y)
-  -- an open reader always sees the table as it stood when it was opened: after any calls but its close or a new opening
+  -- an open reader always sees the table as it stood when it was opened: after any calls but its close or a new opening it answers the version, value
+  -- and stamp, that was each object's newest then
   pub snapshot : (r : ℕ) → act l (open-reader r) (areas x) .0 ≡ done
       → (cs : List Call) → All Typed cs → any (ends l r) cs ≡ false
       → (o : ℕ) → o < length (replica x .objects)
-      → act l (read r o) (acts l (open-reader r ∷ cs) (areas x) .1) .0 ≡ value (committed-table (replica x) .look o)
+      → act l (read r o) (acts l (open-reader r ∷ cs) (areas x) .1) .0 ≡ version (newest (getD (replica x .objects) o []))
   -- early results on record "equal those of running the pending jobs in early order, each on the committed table with the stores of those before it, a
   -- partly run one up to its place"
   pub early : EarlyResults (replica x)

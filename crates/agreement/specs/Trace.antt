@@ -4,7 +4,7 @@ use mathlib.Core.Bool.{Bool, true, false, cond}
 use mathlib.Core.List.{List, [], _∷_, _++_}
 use Prim.Native.Nat.{ℕ}
 use Rattle.model.specs.declared.Limits.{Limits}
-use Rattle.model.specs.Interface.{Opening, optimistic, execute, final, open-reader, close-reader, show-body, Call, opening, update, query, value, found, body, done, executed, committed, observed, Answer, refused, yielded}
+use Rattle.model.specs.Interface.{Opening, optimistic, execute, final, open-reader, close-reader, show-body, Call, opening, update, query, version, found, body, done, executed, committed, observed, Answer, refused, yielded}
 use Rattle.model.specs.Start.{start-of}
 use Rattle.model.specs.Replica.{Replica}
 use Rattle.model.specs.ListLaws.{All}
@@ -50,7 +50,7 @@ bytes-in (refused k) = []
 bytes-in (yielded done) = []
 bytes-in (yielded (executed n f)) = []
 bytes-in (yielded (committed r)) = []
-bytes-in (yielded (observed (value v))) = []
+bytes-in (yielded (observed (version v))) = []
 bytes-in (yielded (observed (found i n))) = []
 bytes-in (yielded (observed (body b))) = b
 

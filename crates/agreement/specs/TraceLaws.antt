@@ -5,14 +5,14 @@ use mathlib.Core.List.{List, [], _∷_, _++_}
 use Prim.Native.Nat.{ℕ, zero, suc, _≤_, _<_}
 use native.Mathlib.Omega.{arith}
 use lib.IntN.{ℤ}
-use lib.ListN.{length}
+use lib.ListN.{length, getD}
 use borrow.Author.Tests.{eq-eqb}
 use Rattle.model.specs.declared.Limits.{Limits}
 use Rattle.model.specs.Lists.{pick, any}
 use Rattle.model.specs.Interface.{optimistic, execute, final, open-reader, close-reader, read, find, show-body, Call, opening, update, query, Answer}
-use Rattle.model.specs.Calls.{plain, done, value, is-key, bytes-of, shown, causes, refusal, judged}
+use Rattle.model.specs.Calls.{plain, done, version, is-key, bytes-of, shown, causes, refusal, judged}
 use Rattle.model.specs.Start.{Start, start-of}
-use Rattle.model.specs.Replica.{Replica, committed-table, keyed, facts, opened, perform, call, calls}
+use Rattle.model.specs.Replica.{Replica, newest, keyed, facts, opened, perform, call, calls}
 use Rattle.model.specs.ListLaws.{All}
 use Rattle.model.specs.Refusals.{accepted, plain-counted, plain-inside}
 use Rattle.model.specs.VersionLaws.{Dated, opening-dated}
@@ -146,13 +146,13 @@ module _ {l : Limits} (x : Trace l) where
     abbrev then : Replica
     then = calls l last (update (open-reader r) ∷ cs) .1
 
-    pub reads-as-opened : (o : ℕ) → o < length (replica x .objects) → act l (query (read r o)) (acts l (update (open-reader r) ∷ cs) (areas x) .1) .0 ≡ value (committed-table (replica x) .look o)
+    pub reads-as-opened : (o : ℕ) → o < length (replica x .objects) → act l (query (read r o)) (acts l (update (open-reader r) ∷ cs) (areas x) .1) .0 ≡ version (newest (getD (replica x .objects) o []))
     reads-as-opened o h =
         ap (λ (a : Areas). act l (query (read r o)) (acts l (update (open-reader r) ∷ cs) a .1) .0) areas-print
         ∙ ap (λ (y : List Answer × Areas). act l (query (read r o)) (y .1) .0) (acts-print l s (update (open-reader r) ∷ cs) last last-shaped (tt, g))
         ∙ ap (λ (y : Answer × Areas). y .0) (act-print l s (query (read r o)) then (calls-shaped l s (update (open-reader r) ∷ cs) last last-shaped (tt, g)))
         ∙ reader-snapshot l (start-of (x .opening)) dated (x .later) cs r o (opens r e) q (rw replica-same at h)
-        ∙ sym (ap (λ (u : Replica). value (committed-table u .look o)) replica-same)
+        ∙ sym (ap (λ (u : Replica). version (newest (getD (u .objects) o []))) replica-same)
 
 -- ---- two traces
 

@@ -52,13 +52,13 @@ pub fn put_delivery(out: &mut [u8], r: Delivery) -> usize
     }
 }
 
-// Read's: the value.
+// Read's: value and stamp of the version that the reader sees.
 pub fn put_reading(out: &mut [u8], r: Reading) -> usize
     ensures { λ n. ⌜ Answered (now (out .entry)) (read 0 0) (reading r) (now (out .exit)) n ⌝ }
 {
     match r {
-        Reading::Value(v) => numerals::put_numbers(out, &[0, v]),
-        Reading::Refused(k) => numerals::put_numbers(out, &[k as i64, 0]),
+        Reading::Version(v, t) => numerals::put_numbers(out, &[0, v, t.0 as i64]),
+        Reading::Refused(k) => numerals::put_numbers(out, &[k as i64, 0, 0]),
     }
 }
 

@@ -1,9 +1,10 @@
--- Entries, Bounds, Run: a run of a body on a table. ReadAgreement, RunShape, BoundsLaws, Ended: its laws. Arrays, LentTable, TableLaws: a run, and a
+-- Entries, Bounds, Run: a run of a body on a table. ReadAgreement, OtherStamps, RunShape, BoundsLaws, Ended: its laws. Arrays, LentTable, TableLaws: a run, and a
 -- table beside it, as the code has them. RunExamples: computed.
 pub mod Entries
 pub mod Bounds
 pub mod Run
 pub mod ReadAgreement
+pub mod OtherStamps
 pub mod RunShape
 pub mod BoundsLaws
 pub mod Ended

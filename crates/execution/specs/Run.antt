@@ -12,18 +12,28 @@ use Rattle.operation.specs.declared.Operation.{Operation}
 use Rattle.operation.specs.declared.Operation.the-variants.{Load, Store, Set, Add, Subtract, Skip, Fail, Divide}
 use Rattle.execution.specs.Entries.{Entry, lookup, update, append}
 
--- what a run sees of the objects: their values, and which values each may take
+-- What a run sees of the objects: their values, and which values each may take. Beside a value stands the stamp of the object's committed version, on
+-- which no run depends (specs/OtherStamps.antt).
 pub record Table : Type 0 where
   pub look : ℕ → ℤ
+  pub stamp : ℕ → ℕ
   pub allow : ℕ → ℤ → Bool
+
+-- all of a table but the values
+pub record Beside : Type 0 where
+  pub stamp : ℕ → ℕ
+  pub allow : ℕ → ℤ → Bool
+
+abbrev pub beside : Table → Beside
+beside T = record { stamp = T .stamp; allow = T .allow }
 
 -- an object's value in a list of values; past its end 0
 abbrev pub value-of : List ℤ → ℕ → ℤ
 value-of vs o = getD vs o (pos 0)
 
--- such a list as a table, with what each object may take
-abbrev pub table-of : List ℤ → (ℕ → ℤ → Bool) → Table
-table-of vs allow = record { look = value-of vs; allow = allow }
+-- such a list as a table, with what stands beside it
+abbrev pub table-of : List ℤ → Beside → Table
+table-of vs b = record { look = value-of vs; stamp = b .stamp; allow = b .allow }
 
 -- how many objects it has
 abbrev pub object-count : List ℤ → ℕ
@@ -156,6 +166,6 @@ abbrev pub matches : Table → List Entry → Bool
 matches T [] = true
 matches T (e ∷ l) = eq-z (T .look (e .object)) (e .value) && matches T l
 
--- the table with a write set over it; the bounds stay
+-- the table with a write set over it; stamps and bounds stay
 abbrev pub over : List Entry → Table → Table
-over s T = record { look = λ o. Option·getD (lookup s o) (T .look o); allow = T .allow }
+over s T = record { look = λ o. Option·getD (lookup s o) (T .look o); stamp = T .stamp; allow = T .allow }

@@ -24,14 +24,14 @@ least = negsuc 9223372036854775807
 abbrev values : List ℤ
 values = pos 10 ∷ pos 20 ∷ pos 30 ∷ []
 
--- the objects of "A small depot": 10, 20, 30, with the widest bounds
+-- the objects of "A small depot": 10, 20, 30, at stamp 4, with the widest bounds
 abbrev depot : Table
-depot = table-of values (λ o. inside widest)
+depot = table-of values (record { stamp = λ o. 4; allow = λ o. inside widest })
 
--- the same with bounds as they stand in cells, from cell 1 on and three cells apart: 5 to 15, 0 to 40, -7 to 30
+-- the same with stamps and bounds as they stand in cells, three cells apart: 9 and 5 to 15, 3 and 0 to 40, 6 and -7 to 30
 abbrev bounded-depot : Table
 bounded-depot =
-    lent-table values (record { first = 1; stride = 3 }) (9 ∷ 5 ∷ 15 ∷ 9 ∷ 0 ∷ 40 ∷ 9 ∷ 18446744073709551609 ∷ 30 ∷ 9 ∷ [])
+    lent-table values (record { stamp = 0; lower = 1; stride = 3 }) (9 ∷ 5 ∷ 15 ∷ 3 ∷ 0 ∷ 40 ∷ 6 ∷ 18446744073709551609 ∷ 30 ∷ 8 ∷ [])
 
 -- its transactions A, B and C
 unfoldable pub body-a : List Operation
@@ -233,5 +233,7 @@ pub computed :
     × (map (λ e. matches depot (e .0)) agreements ≡ map (λ e. e .1) agreements)
     × (map (λ e. whole bounded-depot (e .0)) bounded-examples ≡ map (λ e. e .1) bounded-examples)
     × (map (over (at 2 5 ∷ at 0 7 ∷ []) depot .look) (0 ∷ 1 ∷ 2 ∷ 3 ∷ []) ≡ pos 7 ∷ pos 20 ∷ pos 5 ∷ pos 0 ∷ [])
+    -- a store that is not committed has no stamp: the committed version's stays
+    × (map (over (at 2 5 ∷ at 0 7 ∷ []) bounded-depot .stamp) (0 ∷ 1 ∷ 2 ∷ 3 ∷ []) ≡ 9 ∷ 3 ∷ 6 ∷ 0 ∷ [])
 unfolding body-a examples bounded-examples parts skips agreements start whole steps counted step obey move sum register-count fits quotient rounds-up operations listed encode written inside
-computed = (refl, refl, refl, refl, refl, refl, refl)
+computed = (refl, refl, refl, refl, refl, refl, refl, refl)

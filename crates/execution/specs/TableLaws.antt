@@ -15,7 +15,7 @@ use Rattle.arith.specs.Integer.{eq-z, fits}
 use Rattle.arith.specs.IntegerLaws.{eq-eq-z, ne-eq-z}
 use Rattle.operation.specs.Body.{listed}
 use Rattle.execution.specs.Entries.{Entry, lookup}
-use Rattle.execution.specs.Run.{Table, value-of, table-of, object-count, matches, over}
+use Rattle.execution.specs.Run.{Table, Beside, value-of, table-of, object-count, matches, over}
 use Rattle.execution.specs.ReadAgreement.{both}
 use Rattle.execution.specs.RunShape.{sound, every}
 
@@ -85,5 +85,5 @@ module _ (f : ℕ → Entry) (n : ℕ) (first : List ℤ) where
       at o false e =
           getD-set-other table (f i .object) o (f i .value) (pos 0) (λ q. eqb-false (f i .object) o e (sym q)) ∙ k .values o
 
-  pub laid-all : (table : List ℤ) → Laid table 0 → (allow : ℕ → ℤ → Bool) → table-of table allow ≡ over (listed f n) (table-of first allow)
-  laid-all table k allow j = record { look = fun-ext (k .values) j; allow = allow }
+  pub laid-all : (table : List ℤ) → Laid table 0 → (b : Beside) → table-of table b ≡ over (listed f n) (table-of first b)
+  laid-all table k b j = record { look = fun-ext (k .values) j; stamp = b .stamp; allow = b .allow }

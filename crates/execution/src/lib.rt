@@ -1,4 +1,4 @@
-// How far a run of a transaction's body has come, what its sets say beside a table (document 01, "A job's body"), and the bounds of a lent one. The
+// How far a run of a transaction's body has come, what its sets say beside a table (document 01, "A job's body"), and what stands beside the values of a lent one. The
 // definitions and laws of runs are in specs/. Registers and both sets stand in lent arrays; four counts go by value.
 ghost use mathlib.Core.Path.{_≡_};
 ghost use mathlib.Core.Bool.{Bool, true};
@@ -9,7 +9,7 @@ ghost use Rattle.cells.specs.Cells.{cells};
 ghost use Rattle.operation.specs.Body.{operations};
 ghost use Rattle.execution.specs.Bounds.{inside};
 ghost use Rattle.execution.specs.LentTable.{cell-bounds};
-ghost use Rattle.execution.specs.Run.{table-of, object-count, is-none, due-at, over};
+ghost use Rattle.execution.specs.Run.{Beside, table-of, object-count, is-none, due-at, over};
 ghost use Rattle.execution.specs.RunShape.{every, sound};
 ghost use Rattle.execution.specs.Arrays.{capacity, entries};
 
@@ -22,9 +22,11 @@ pub struct Counts {
     pub writes: usize,
 }
 
-// Where the bounds of the objects stand in lent cells: object 0's lower bound at cell `first`, its upper one behind it, each next object's `stride` cells on.
-pub struct BoundsAt {
-    pub first: usize,
+// Where stamps and bounds of the objects stand in lent cells: object 0's stamp at cell `stamp`, its lower bound at cell `lower` and its upper one behind
+// it, those of each next object `stride` cells on.
+pub struct ObjectsAt {
+    pub stamp: usize,
+    pub lower: usize,
     pub stride: usize,
 }
 
@@ -52,8 +54,7 @@ pub fn allows(area: &[u8], lower: usize, value: i64) -> bool
 // Lays a write set over a table, the last entry first, so that the first entry of an object counts.
 pub fn overlay<'a>(table: &mut [i64], wo: &'a [usize; 16], wv: &'a [i64; 16], count: usize)
     requires { ⌜ (count ≤ capacity) × (every (sound (object-count (now table))) (entries count (now wo) (now wv)) ≡ true) ⌝ }
-    ensures table { λ _. ⌜ ((allow : ℕ → ℤ → Bool) → table-of (now (table .exit)) allow
-        ≡ over (entries count (now (wo .entry)) (now (wv .entry))) (table-of (now (table .entry)) allow)) ⌝ }
+    ensures table { λ _. ⌜ ((b : Beside) → table-of (now (table .exit)) b ≡ over (entries count (now (wo .entry)) (now (wv .entry))) (table-of (now (table .entry)) b)) ⌝ }
     ensures size { λ _. ⌜ object-count (now (table .exit)) ≡ object-count (now (table .entry)) ⌝ }
 {
     let mut i = count;

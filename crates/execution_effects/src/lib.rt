@@ -1,8 +1,8 @@
 // What an operation does to a run: registers and program counter; a load by write set, read set and table, recorded in the read set; a store into
 // the write set, where the object's bounds allow the value.
 use arith::Checked;
-use execution::BoundsAt;
 use execution::Counts;
+use execution::ObjectsAt;
 ghost use mathlib.Core.Path.{_≡_};
 ghost use mathlib.Core.List.{List};
 ghost use mathlib.Core.Bool.{Bool};
@@ -10,8 +10,8 @@ ghost use Prim.Native.Nat.{ℕ, _+_, _*_, _≤_, _<_};
 ghost use lib.IntN.{ℤ};
 ghost use lib.ListN.{length, set};
 ghost use Rattle.cells.specs.Cells.{cells};
-ghost use Rattle.execution.specs.Run.{Table, table-of, object-count, apply, get as get-move, put as put-move, register};
-ghost use Rattle.execution.specs.LentTable.{bounds-cell, lent-allowed};
+ghost use Rattle.execution.specs.Run.{Table, Beside, table-of, object-count, apply, get as get-move, put as put-move, register};
+ghost use Rattle.execution.specs.LentTable.{bounds-cell, lent-beside};
 ghost use Rattle.execution.specs.Arrays.{capacity, run-of-arrays, Room, Bounded};
 ghost use Rattle.execution_effects.specs.Effects.{advanced, stopped, settled, Found};
 
@@ -92,8 +92,8 @@ pub fn load<'a>(
     o: usize,
 ) -> Counts
     requires { ⌜ Bounded c × (c .counter < capacity) × (r < 4) × (o < object-count (now table)) × Room (now ro) (now rv) ⌝ }
-    ensures run { λ t. ⌜ ((allow : ℕ → ℤ → Bool) → run-of-arrays t (now (registers .exit)) (now (ro .exit)) (now (rv .exit)) (now (wo .entry)) (now (wv .entry))
-        ≡ apply (table-of (now (table .entry)) allow) (get-move r o)
+    ensures run { λ t. ⌜ ((b : Beside) → run-of-arrays t (now (registers .exit)) (now (ro .exit)) (now (rv .exit)) (now (wo .entry)) (now (wv .entry))
+        ≡ apply (table-of (now (table .entry)) b) (get-move r o)
         (run-of-arrays c (now (registers .entry)) (now (ro .entry)) (now (rv .entry)) (now (wo .entry)) (now (wv .entry)))) ⌝ }
     ensures bounded { λ t. ⌜ Bounded t ⌝ }
     ensures room { λ _. ⌜ Room (now (ro .exit)) (now (rv .exit)) ⌝ }
@@ -123,7 +123,7 @@ pub fn load<'a>(
 // A value outside the object's bounds stops the run. An object stored again keeps its place and takes the new value.
 pub fn store(
     area: &[u8],
-    bounds: BoundsAt,
+    objects: ObjectsAt,
     registers: &[i64; 4],
     wo: &mut [usize; 16],
     wv: &mut [i64; 16],
@@ -131,16 +131,16 @@ pub fn store(
     r: usize,
     o: usize,
 ) -> Counts
-    requires { ⌜ Bounded c × (c .counter < capacity) × (r < 4) × ((bounds-cell bounds o + 2) * 8 ≤ length (now area)) × Room (now wo) (now wv) ⌝ }
+    requires { ⌜ Bounded c × (c .counter < capacity) × (r < 4) × ((bounds-cell objects o + 2) * 8 ≤ length (now area)) × Room (now wo) (now wv) ⌝ }
     ensures run { λ t. ⌜ ((n : ℕ) (vs : List ℤ) (ro : List ℕ) (rv : List ℤ) → o < n
         → run-of-arrays t (now (registers .entry)) ro rv (now (wo .exit)) (now (wv .exit))
-        ≡ apply (table-of vs (lent-allowed n bounds (cells (now (area .entry))))) (put-move o (register (now (registers .entry)) r))
+        ≡ apply (table-of vs (lent-beside n objects (cells (now (area .entry))))) (put-move o (register (now (registers .entry)) r))
         (run-of-arrays c (now (registers .entry)) ro rv (now (wo .entry)) (now (wv .entry)))) ⌝ }
     ensures bounded { λ t. ⌜ Bounded t ⌝ }
     ensures room { λ _. ⌜ Room (now (wo .exit)) (now (wv .exit)) ⌝ }
 {
     let v = registers[r];
-    let at = bounds.first + o * bounds.stride;
+    let at = objects.lower + o * objects.stride;
     if !execution::allows(area, at, v) {
         return stop(c, 3);
     }

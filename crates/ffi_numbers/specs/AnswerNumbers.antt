@@ -24,7 +24,7 @@ abbrev pub committed : Committed → List ℤ
 committed r = pos (r .number) ∷ pos (r .outcome) ∷ pos (r .kept) ∷ pos (r .stamp) ∷ pos (r .stored) ∷ []
 
 abbrev pub valued : Valued → List ℤ
-valued r = pos (r .number) ∷ r .value ∷ []
+valued r = pos (r .number) ∷ r .value ∷ pos (r .stamp) ∷ []
 
 abbrev pub found : Found → List ℤ
 found r = pos (r .number) ∷ pos (r .place) ∷ pos (r .length) ∷ []

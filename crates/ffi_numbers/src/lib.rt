@@ -25,11 +25,12 @@ pub struct Committed {
     pub stored: u32,
 }
 
-// Read.
+// Read: value and stamp of the version that the reader sees.
 #[repr(C)]
 pub struct Valued {
     pub number: u32,
     pub value: i64,
+    pub stamp: u32,
 }
 
 // Find: the optimistic position and the length of the body.
@@ -92,13 +93,18 @@ pub fn delivery_numbers(d: Delivery) -> Committed
 
 // Read's answer in the paper's numbers.
 pub fn reading_numbers(r: Reading) -> Valued
-    ensures { λ v. ⌜ Numbered 1 (valued v) (reading r) ⌝ }
+    ensures { λ v. ⌜ Numbered 2 (valued v) (reading r) ⌝ }
 {
     match r {
-        Reading::Value(value) => Valued { number: 0, value },
+        Reading::Version(value, timestamp) => Valued {
+            number: 0,
+            value,
+            stamp: timestamp.0,
+        },
         Reading::Refused(k) => Valued {
             number: k,
             value: 0,
+            stamp: 0,
         },
     }
 }

@@ -17,7 +17,7 @@ use Rattle.cells.specs.CellLaws.{cells-drop}
 use Rattle.operation.specs.Body.{listed, size, operations, is-well-formed, body-length}
 use Rattle.operation.specs.BodyLaws.{Formed, formed, well-formed}
 use Rattle.execution.specs.declared.Counts.{Counts}
-use Rattle.execution.specs.declared.BoundsAt.{BoundsAt}
+use Rattle.execution.specs.declared.ObjectsAt.{ObjectsAt}
 use Rattle.execution.specs.Entries.{entry}
 use Rattle.execution.specs.Run.{Table, object-count, Run, is-none, due-at, whole, matches}
 use Rattle.execution.specs.LentTable.{lent-table, BoundsWithin}
@@ -98,7 +98,7 @@ valid-at b ps body t a =
 pub record Rerunning (l : Limits) (b body : List ℕ) : Type 0 where
   pub replica : Replica
   pub holds : Holds l b replica
-  pub versions : All (λ (vs : List Version). 0 < length vs) (replica .objects)
+  pub versions : rows.Current replica
   pub formed : is-well-formed capacity (length (replica .objects)) body ≡ true
 
 -- the whole run of this body, in counts, with its write set in two arrays
@@ -114,8 +114,11 @@ module _ {l : Limits} {b body : List ℕ} (s : Sane l) (m : Local l) (p : Rerunn
   rerun-laid =
       record { whole = holds-long l s b (p .replica) (p .holds); few = omega (arith, get-size l s b (p .replica) (p .holds), p .holds .fits .objects .0); room = m .objects }
 
+  pub rerun-counted : rows.Counted l b
+  rerun-counted = rows.counted l s b (p .replica) (p .holds)
+
   -- the values of the first n objects, as they were gathered
-  module _ {n : ℕ} {vs : List ℤ} (e : rows.Committed l (cells b) n vs) where
+  module _ {n : ℕ} {vs : List ℤ} (e : rows.Committed l b n vs) where
     pub values-few : n ≤ length vs
     values-few = rows.committed-room l s b (p .replica) (p .holds) (p .versions) e
 
@@ -128,17 +131,17 @@ module _ {l : Limits} {b body : List ℕ} (s : Sane l) (m : Local l) (p : Rerunn
     pub values-formed : is-well-formed capacity (object-count (take n vs)) body ≡ true
     values-formed = ap (λ (k : ℕ). is-well-formed capacity k body) as-many ∙ p .formed
 
-    -- their bounds stand at q
-    module _ {q : BoundsAt} (eq : q ≡ rows.bounds-place l) where
+    -- their stamps and bounds stand at q
+    module _ {q : ObjectsAt} (eq : q ≡ rows.objects-place l) where
       pub bounds-there : BoundsWithin q (object-count (take n vs)) (length b)
       bounds-there =
-          subst (λ (x : BoundsAt). BoundsWithin x (object-count (take n vs)) (length b)) (sym eq)
-          (subst (λ (k : ℕ). BoundsWithin (rows.bounds-place l) k (length b)) (sym as-many) (rows.bounds-within l s b (p .replica) (p .holds)))
+          subst (λ (x : ObjectsAt). BoundsWithin x (object-count (take n vs)) (length b)) (sym eq)
+          (subst (λ (k : ℕ). BoundsWithin (rows.objects-place l) k (length b)) (sym as-many) (rows.bounds-within l s b (p .replica) (p .holds)))
 
       pub values-ran : (t : Counts) (ro : List ℕ) (rv : List ℤ) (wo : List ℕ) (wv : List ℤ)
           → InArrays (whole (lent-table (take n vs) q (cells b)) (operations body)) t ro rv wo wv → Ran (committed-table (p .replica)) body t wo wv
       values-ran t ro rv wo wv h =
-          let T = ap (λ (x : BoundsAt). lent-table (take n vs) x (cells b)) eq ∙ rows.committed-lent l s b (p .replica) (p .holds) (p .versions) e in
+          let T = ap (λ (x : ObjectsAt). lent-table (take n vs) x (cells b)) eq ∙ rows.committed-lent l s b (p .replica) (p .holds) (p .versions) e in
           let k = h ∙ ap (λ (x : Table). whole x (operations body)) T in
           record { outcome = ap (λ (q : Run). q .outcome) k; writes = ap (λ (q : Run). q .writes) k }
 
@@ -201,7 +204,7 @@ module _ {l : Limits} {b c : List ℕ} {i : ℕ} {ps : List ℕ} (s : Sane l) (m
           ∙ well-formed {limit = capacity} {n = length (u .objects)} {b = body-of j} (record { some = form .some; most = omega (arith, form .most, m .operations); whole = form .whole; all = form .all })
 
       abbrev pub rerunning : Rerunning l b (midOf x (x + w - x) c)
-      rerunning = record { replica = u; holds = p .holds; versions = some-version u (p .shape); formed = lent-formed }
+      rerunning = record { replica = u; holds = p .holds; versions = rows.current u (p .shape); formed = lent-formed }
 
   -- its row begins at cell a
   module _ {a : ℕ} (ea : a ≡ row-at l i) where

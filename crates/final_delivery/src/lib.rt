@@ -69,8 +69,8 @@ fn is_validated(records: &[u8], at: usize, body: &[u8], t: Counts, places: &[usi
     }
 }
 
-// The whole run of this body on the committed state: its values are gathered for it, its bounds are read where they stand. Its write set comes in
-// two arrays.
+// The whole run of this body on the committed state: its values are gathered for it, by the lookup that readers use; stamps
+// and bounds are lent where they stand. Its write set comes in two arrays.
 fn run_again(
     records: &[u8],
     l: Limits,
@@ -84,10 +84,19 @@ fn run_again(
 {
     let mut table: [i64; 128] = [0; 128];
     let n = rows::committed_values(records, l, &mut table);
-    let bounds = rows::bounds_place(l);
+    let objects = rows::objects_place(l);
     let mut ro: [usize; 16] = [0; 16];
     let mut rv: [i64; 16] = [0; 16];
-    execution_interpreter::run(&table[..n], records, bounds, body, &mut ro, &mut rv, wo, wv)
+    execution_interpreter::run(
+        &table[..n],
+        records,
+        objects,
+        body,
+        &mut ro,
+        &mut rv,
+        wo,
+        wv,
+    )
 }
 
 // The early results of the pending transaction at this position, if they are validated on the committed state, whose places are lent, else its whole

@@ -11,6 +11,7 @@ use lib.Dec.{ltb}
 use lib.ListN.{length, getD}
 use mir.Syntax.{w64}
 use mir.Val.{toZ}
+use mir.Facts.{toZ-ofZ}
 use borrow.Author.Tests.{ltb-true}
 use Rattle.cells.specs.Cells.{cells}
 use Rattle.arith.specs.Integer.{fits, eq-z}
@@ -19,16 +20,18 @@ use Rattle.execution.specs.Run.{Table, matches, over}
 use Rattle.execution.specs.ReadAgreement.{both}
 use Rattle.execution.specs.RunShape.{every, sound}
 use Rattle.model.specs.declared.Limits.{Limits}
-use Rattle.model.specs.Serial.{Version}
-use Rattle.model.specs.Replica.{Replica, committed-table}
-use Rattle.model.specs.ListLaws.{All}
+use Rattle.model.specs.Serial.{Version, no-version}
+use Rattle.model.specs.Replica.{Replica, newest, committed-table}
+use Rattle.model.specs.ListLaws.{All, all-in}
 use Rattle.layout.specs.Offsets.{Sane, object-width, object-at, value-at}
+use Rattle.layout.specs.Printable.{VersionFits, ObjectFits}
+use Rattle.layout.specs.RowCells.{block-value}
 use Rattle.layout.specs.Holds.{Holds, holds-long}
-use Rattle.rows.specs.Committed.{value-back}
+use Rattle.layout.specs.Reading.{get-object}
 
--- It is compared with what was read, and nothing is stored on it: which values it allows is not asked.
+-- It is compared with what was read, and nothing is stored on it: which values it allows is not asked, nor a stamp.
 abbrev pub table-in : List ℕ → List ℕ → Table
-table-in cs ps = record { look = λ o. toZ w64 (getD cs (getD ps o 0) 0); allow = λ o v. true }
+table-in cs ps = record { look = λ o. toZ w64 (getD cs (getD ps o 0) 0); stamp = λ o. 0; allow = λ o v. true }
 
 -- the places of the first n objects lie in the area b
 pub record Inside (b : List ℕ) (n : ℕ) (ps : List ℕ) : Type 0 where
@@ -75,6 +78,20 @@ placed-inside {l} {b} {u} {ps} s h few p =
     }
 
 module _ (l : Limits) (s : Sane l) (b : List ℕ) (u : Replica) (h : Holds l b u) (some-version : All (λ (vs : List Version). 0 < length vs) (u .objects)) where
+  -- the newest version's value where it stands
+  value-back : (i : ℕ) → i < length (u .objects) → toZ w64 (getD (cells b) (object-at l i + value-at 0) 0) ≡ newest (getD (u .objects) i []) .value
+  value-back i k =
+      let vs = getD (u .objects) i [] in
+      let g = all-in (ObjectFits (l .readers)) (u .objects) i [] (h .fits .objects .1) k in
+      let some = all-in (λ (vs : List Version). 0 < length vs) (u .objects) i [] some-version k in
+      ap (toZ w64) (get-object l s b u h i k 2 (omega arith) ∙ block-value l vs 0 some no-version)
+      ∙ toZ-ofZ (all-in VersionFits vs 0 no-version (g .1) some .1)
+      ∙ head-newest vs some
+    where
+      head-newest : (vs : List Version) → 0 < length vs → getD vs 0 no-version .value ≡ newest vs .value
+      head-newest [] p = absurd (omega arith)
+      head-newest (v ∷ vs) p = refl
+
   pub placed-table : (ps : List ℕ) → Placed l (length (u .objects)) ps → Same (length (u .objects)) (table-in (cells b) ps) (committed-table u)
   placed-table ps p o k =
-      ap (λ (i : ℕ). toZ w64 (getD (cells b) i 0)) (p .at o k) ∙ value-back l s b u h some-version o k
+      ap (λ (i : ℕ). toZ w64 (getD (cells b) i 0)) (p .at o k) ∙ value-back o k

@@ -123,7 +123,7 @@ module _ {b ps : List ℕ} {a : ℕ} (y : Lying b a) (r : Reaching b ps (writes-
       }
     where
       looking : (ℕ → ℤ) → Table
-      looking h = record { look = h; allow = λ o v. true }
+      looking h = record { look = h; stamp = λ o. 0; allow = λ o v. true }
 
   -- entry i, the one before those laid
   module _ {qs : List ℕ} {i c : ℕ} (low : i < many) (k : Laying b a ps qs (suc i)) (ec : c ≡ a + entry-at (reads + i)) where

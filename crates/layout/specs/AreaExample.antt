@@ -139,7 +139,7 @@ unfits =
     ∷ (final 3 10, pos 1 ∷ pos 0 ∷ pos 0 ∷ pos 0 ∷ pos 0 ∷ [])
     ∷ (open-reader 0, pos 1 ∷ [])
     ∷ (close-reader 0, pos 1 ∷ [])
-    ∷ (read 0 0, pos 1 ∷ pos 0 ∷ [])
+    ∷ (read 0 0, pos 1 ∷ pos 0 ∷ pos 0 ∷ [])
     ∷ (find 3 10, pos 1 ∷ pos 0 ∷ pos 0 ∷ [])
     ∷ (show-body 3 10, [])
     ∷ []

@@ -15,6 +15,7 @@ pub mod Fields
 pub mod Holds
 pub mod Reading
 pub mod ObjectBlock
+pub mod LentBlock
 pub mod Writing
 pub mod WritingRows
 pub mod Bodies

@@ -14,6 +14,7 @@ use Rattle.execution.specs.Entries.{Entry}
 use Rattle.execution.specs.Run.{Run, start, register}
 use Rattle.model.specs.declared.Limits.{Limits}
 use Rattle.model.specs.Serial.{Version}
+use Rattle.model.specs.Replica.{newest}
 use Rattle.model.specs.ListLaws.{All, all-join, getD-map-in}
 use Rattle.versions.specs.Block as versions
 use Rattle.layout.specs.Rows.{flat, table, blank}
@@ -21,7 +22,7 @@ use Rattle.layout.specs.RowLaws.{blanks, table-full, row-read}
 use Rattle.layout.specs.Codec.{Codec}
 use Rattle.layout.specs.Layout.{of-key, entry, Row, row}
 use Rattle.layout.specs.Layout as layout
-use Rattle.layout.specs.Offsets.{row-cells, value-at, register-at, reads-at, entries-at, entry-at}
+use Rattle.layout.specs.Offsets.{row-cells, stamp-at, value-at, register-at, reads-at, entries-at, entry-at}
 use Rattle.layout.specs.Lawful.{sized, uniform, Lawful}
 use Rattle.layout.specs.Printable.{EntryFits, RowFits, lawful-entry}
 use Rattle.layout.specs.Field.{mid-at}
@@ -59,6 +60,11 @@ unfolding versions.block
 block-value l vs j h d =
     let e : value-at j ≡ suc (1 + j * 2) = omega arith in
     rw e (flat-value vs (blank (2 * (suc (l .readers) - length vs))) j h d)
+
+pub block-newest : (l : Limits) (vs : List Version) → 0 < length vs → getD (layout.versions l .enc vs) (stamp-at 0) 0 ≡ newest vs .stamp
+unfolding versions.block versions.flat
+block-newest l [] h = absurd (not-suc-le-zero h)
+block-newest l (v ∷ vs) h = refl
 
 -- ---- a row
 

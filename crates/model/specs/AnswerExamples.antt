@@ -26,7 +26,7 @@ answers =
     ∷ ((final 1 2, committed 3 true 9 4), pos 0 ∷ pos 3 ∷ pos 1 ∷ pos 9 ∷ pos 4 ∷ [])  -- kept
     ∷ ((final 1 2, committed 3 false 9 4), pos 0 ∷ pos 3 ∷ pos 0 ∷ pos 9 ∷ pos 4 ∷ [])  -- run again
     ∷ ((open-reader 1, done), pos 0 ∷ [])
-    ∷ ((read 1 2, value (negsuc 6)), pos 0 ∷ negsuc 6 ∷ [])
+    ∷ ((read 1 2, value (negsuc 6) 9), pos 0 ∷ negsuc 6 ∷ pos 9 ∷ [])
     ∷ ((close-reader 1, done), pos 0 ∷ [])
     ∷ ((find 1 2, found 3 45), pos 0 ∷ pos 3 ∷ pos 45 ∷ [])
     ∷ ((show-body 1 2, body (6 ∷ 7 ∷ [])), pos 6 ∷ pos 7 ∷ [])
@@ -37,7 +37,7 @@ answers =
     ∷ ((execute 9, refused 14), pos 14 ∷ pos 0 ∷ pos 0 ∷ [])
     ∷ ((final 1 2, refused 8), pos 8 ∷ pos 0 ∷ pos 0 ∷ pos 0 ∷ pos 0 ∷ [])
     ∷ ((open-reader 1, refused 11), pos 11 ∷ [])
-    ∷ ((read 1 2, refused 13), pos 13 ∷ pos 0 ∷ [])
+    ∷ ((read 1 2, refused 13), pos 13 ∷ pos 0 ∷ pos 0 ∷ [])
     ∷ ((close-reader 1, refused 12), pos 12 ∷ [])
     ∷ ((find 1 2, refused 3), pos 3 ∷ pos 0 ∷ pos 0 ∷ [])
     ∷ []
@@ -86,7 +86,7 @@ compared-answers =
     ∷ (executed 5 3, executed 0 0)  -- "Work's counts .. are demand 2's"
     ∷ (committed 3 true 9 4, committed 3 false 9 4)  -- "and kept or run again"
     ∷ (committed 3 false 9 4, committed 3 false 9 4)
-    ∷ (value (negsuc 6), value (negsuc 6))
+    ∷ (value (negsuc 6) 9, value (negsuc 6) 9)  -- "A reader's sameness of answers now includes the stamp"
     ∷ (found 3 45, found 3 45)
     ∷ (body (6 ∷ 7 ∷ []), body (6 ∷ 7 ∷ []))
     ∷ []

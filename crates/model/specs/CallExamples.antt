@@ -256,9 +256,9 @@ refusals =
     ∷ (final 2 1, pos 9 ∷ pos 0 ∷ pos 0 ∷ pos 0 ∷ pos 0 ∷ [])
     ∷ (open-reader 2, pos 10 ∷ [])
     ∷ (open-reader 0, pos 11 ∷ [])
-    ∷ (read 2 3, pos 10 ∷ pos 0 ∷ [])  -- not open, no such object
-    ∷ (read 1 3, pos 12 ∷ pos 0 ∷ [])  -- no such object
-    ∷ (read 0 3, pos 13 ∷ pos 0 ∷ [])
+    ∷ (read 2 3, pos 10 ∷ pos 0 ∷ pos 0 ∷ [])  -- not open, no such object
+    ∷ (read 1 3, pos 12 ∷ pos 0 ∷ pos 0 ∷ [])  -- no such object
+    ∷ (read 0 3, pos 13 ∷ pos 0 ∷ pos 0 ∷ [])
     ∷ (close-reader 2, pos 10 ∷ [])  -- not open
     ∷ (close-reader 1, pos 12 ∷ [])
     ∷ (find 16 0, pos 3 ∷ pos 0 ∷ pos 0 ∷ [])  -- not pending
@@ -332,8 +332,8 @@ taken =
     ∷ (opening (in-middle (pos 9) (pos 6) (pos 12)), pos 0 ∷ [])
     ∷ (execute 5, pos 0 ∷ pos 5 ∷ pos 5 ∷ [])
     ∷ (open-reader 1, pos 0 ∷ [])
-    ∷ (read 0 1, pos 0 ∷ pos 20 ∷ [])
-    ∷ (read 0 2, pos 0 ∷ pos 0 ∷ [])  -- the last object
+    ∷ (read 0 1, pos 0 ∷ pos 20 ∷ pos 4294967294 ∷ [])  -- untouched: the start stamp
+    ∷ (read 0 2, pos 0 ∷ pos 0 ∷ pos 4294967295 ∷ [])  -- the last object
     ∷ (close-reader 0, pos 0 ∷ [])
     ∷ (find 15 1, pos 0 ∷ pos 7 ∷ pos 12 ∷ [])
     ∷ (show-body 15 1, map pos one)

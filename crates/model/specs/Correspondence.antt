@@ -13,7 +13,7 @@ use Rattle.operation.specs.BodyLaws.{valid-drop}
 use Rattle.execution.specs.Run.{Run, start, steps}
 use Rattle.model.specs.declared.Limits.{Limits}
 use Rattle.model.specs.Lists.{pick, keep}
-use Rattle.model.specs.Interface.{optimistic, execute, final, open-reader, close-reader, Query, read, find, show-body, Call, opening, update, query, value, Yield, observed, Answer, yielded}
+use Rattle.model.specs.Interface.{optimistic, execute, final, open-reader, close-reader, Query, read, find, show-body, Call, opening, update, query, version, Yield, observed, Answer, yielded}
 use Rattle.model.specs.Calls.{compared, seen, Transaction, is-key, leaves, bytes-of, refusal, judged}
 use Rattle.model.specs.Start.{Start, start-of}
 use Rattle.model.specs.Serial as serial
@@ -164,17 +164,17 @@ module _ (l : Limits) where
 
     -- ---- queries
 
-    read-same : (r o : ℕ) → view (getD (u .readers) r none) (getD (u .objects) o []) .value ≡ getD (Option·getD (getD (copies (u .objects) (u .readers)) r none) []) o no-version .value
+    read-same : (r o : ℕ) → view (getD (u .readers) r none) (getD (u .objects) o []) ≡ getD (Option·getD (getD (copies (u .objects) (u .readers)) r none) []) o no-version
     read-same r o =
         rw (List·getD-map (Option·map (λ r. map (as-of r) (u .objects))) (u .readers) r none) (go′ (getD (u .readers) r none))
       where
-        go′ : (k : Option ℕ) → view k (getD (u .objects) o []) .value ≡ getD (Option·getD (Option·map (λ r. map (as-of r) (u .objects)) k) []) o no-version .value
+        go′ : (k : Option ℕ) → view k (getD (u .objects) o []) ≡ getD (Option·getD (Option·map (λ r. map (as-of r) (u .objects)) k) []) o no-version
         go′ none = refl
-        go′ (some r) = ap (λ (x : Version). x .value) (sym (List·getD-map (as-of r) (u .objects) o []))
+        go′ (some r) = sym (List·getD-map (as-of r) (u .objects) o [])
 
     reply-same : (q : Query) → reply l u q ≡ serial.reply l (serial-of u) q
     unfolding serial-of
-    reply-same (read r o) = ap (λ (v : ℤ). value (record { value = v })) (read-same r o)
+    reply-same (read r o) = ap version (read-same r o)
     reply-same (find c s) =
         rw (index-map (λ (j : Pending). j .sent) (is-key c s) (u .pending), picked-bytes (is-key c s) (u .pending))
     reply-same (show-body c s) = rw (facts-same u, picked-bytes (is-key c s) (u .pending))

@@ -2,7 +2,7 @@
 use mathlib.Core.Bool.{Bool}
 use mathlib.Core.List.{List}
 use Prim.Native.Nat.{ℕ}
-use lib.IntN.{ℤ}
+use lib.IntN.{ℤ, pos}
 
 -- ---- the calls
 
@@ -38,13 +38,17 @@ pub record Committed : Type 0 where
   pub timestamp : ℕ  -- the new commit timestamp
   pub stored : ℕ  -- how many objects were stored
 
--- what Read yields of the version that its reader sees
-pub record ReadVersion : Type 0 where
+-- a version: a value with the commit timestamp of its store
+pub record Version : Type 0 where
+  pub stamp : ℕ
   pub value : ℤ
+
+abbrev pub no-version : Version
+no-version = record { stamp = 0; value = pos 0 }
 
 -- what a query yields
 pub data Observation : Type 0 where
-  value : ReadVersion → Observation
+  version : Version → Observation  -- Read's: what its reader sees
   found : ℕ → ℕ → Observation  -- optimistic position, length of the body
   body : List ℕ → Observation
 

@@ -21,6 +21,7 @@ pub mod ReaderSnapshots
 pub mod EarlyRecord
 pub mod Work
 pub mod Validation
+pub mod StampsApart
 pub mod Shape
 pub mod ShapeRuns
 pub mod Held

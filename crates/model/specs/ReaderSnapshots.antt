@@ -11,16 +11,15 @@ use lib.ListN.{length, getD, set, length-map, List·getD-map}
 use lib.Seq.{getD-set-same, getD-set-other}
 use borrow.Author.Tests.{eq-eqb, eqb-false, leb-false, lt-leb}
 use Rattle.execution.specs.Entries.{Entry}
-use Rattle.execution.specs.Run.{Table}
 use Rattle.model.specs.declared.Limits.{Limits}
 use Rattle.model.specs.Lists.{any}
 use Rattle.model.specs.Interface.{optimistic, execute, final, open-reader, close-reader, read, Call, opening, update, query}
-use Rattle.model.specs.Calls.{value, Facts, causes, refusal, judged}
+use Rattle.model.specs.Calls.{version, Facts, causes, refusal, judged}
 use Rattle.model.specs.Start.{Version, no-version, Start}
 use Rattle.model.specs.Serial.{is-some}
 use Rattle.model.specs.Replica.{Replica, newest, as-of, view, opens, prune, committed-table, keyed, result, facts, commit, opened, perform, call, calls}
 use Rattle.model.specs.ListLaws.{or-right, map-all, map-map-same, all-implies}
-use Rattle.model.specs.VersionLaws.{Dated, as-of-prune, as-of-now, as-of-install, table-values}
+use Rattle.model.specs.VersionLaws.{Dated, as-of-prune, as-of-now, as-of-install}
 use Rattle.model.specs.Refusals.{accepted, opening-judged}
 use Rattle.model.specs.Invariant.{Invariant, opened-invariant, call-invariant, calls-invariant}
 use Rattle.model.specs.Tests.{neither}
@@ -118,7 +117,7 @@ module _ (l : Limits) (r : ℕ) where
         go′ (suc k) e = h
 
     -- it answers from its copy
-    read-open : (o : ℕ) → o < length copy → call l u (query (read r o)) .0 ≡ value (getD copy o no-version .value)
+    read-open : (o : ℕ) → o < length copy → call l u (query (read r o)) .0 ≡ version (getD copy o no-version)
     unfolding call perform facts refusal causes
     read-open o k =
         let seated : r < l .readers = (let z = v .seats in omega (arith, some-within (u .readers) r (h .since) (h .entry))) in
@@ -134,20 +133,20 @@ module _ (l : Limits) (r : ℕ) where
       calls-open copy cs (call l u c .1) (call-invariant l u v c) (call-open copy u v h c (k .0)) (k .1)
 
   -- From any replica that keeps the invariant: reader r is opened, and then come any calls that do not end it. A read of it is not refused, and answers the
-  -- value that the object had in the committed state when the reader was opened.
+  -- version, its value and its stamp, that the object had in the committed state when the reader was opened.
   pub reads-as-opened : (u : Replica) → Invariant l u → refusal l (facts u) (update (open-reader r)) ≡ 0 → (cs : List Call) → any (ends l r) cs ≡ false → (o : ℕ) → o < length (u .objects)
-      → call l (calls l u (update (open-reader r) ∷ cs) .1) (query (read r o)) .0 ≡ value (committed-table u .look o)
+      → call l (calls l u (update (open-reader r) ∷ cs) .1) (query (read r o)) .0 ≡ version (newest (getD (u .objects) o []))
   unfolding calls
   reads-as-opened u v e cs q o k =
       let w = call-invariant l u v (update (open-reader r)) in
       let copy = map newest (u .objects) in
       let h = calls-open copy cs (call l u (update (open-reader r)) .1) w (open-reader-opens u v e) q in
       read-open copy (calls l (call l u (update (open-reader r)) .1) cs .1) (calls-invariant l cs (call l u (update (open-reader r)) .1) w) h o (rw (length-map (u .objects) newest) k)
-      ∙ ap (λ (S : Table). value (S .look o)) (table-values (u .objects) (u .bounds))
+      ∙ ap version (List·getD-map newest (u .objects) o [])
 
 -- the same for a list that starts with an opening: `before` the reader is opened and `after`
 pub reader-snapshot : (l : Limits) (s : Start) → Dated s → (before after : List Call) (r o : ℕ)
     → let u = calls l (opened l s) before .1 in refusal l (facts u) (update (open-reader r)) ≡ 0 → any (ends l r) after ≡ false → o < length (u .objects)
-    → call l (calls l u (update (open-reader r) ∷ after) .1) (query (read r o)) .0 ≡ value (committed-table u .look o)
+    → call l (calls l u (update (open-reader r) ∷ after) .1) (query (read r o)) .0 ≡ version (newest (getD (u .objects) o []))
 reader-snapshot l s d before after r o e q k =
     reads-as-opened l r (calls l (opened l s) before .1) (calls-invariant l before (opened l s) (opened-invariant l s d)) e after q o k

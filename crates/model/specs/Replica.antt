@@ -14,7 +14,7 @@ use Rattle.execution.specs.Bounds.{Bounds, no-bounds, inside}
 use Rattle.execution.specs.Run.{Table, Run, start, ended, steps, whole, counted, matches, over}
 use Rattle.model.specs.declared.Limits.{Limits}
 use Rattle.model.specs.Lists.{pick, keep, any, count, index, mapi}
-use Rattle.model.specs.Interface.{optimistic, execute, final, open-reader, close-reader, Query, read, find, show-body, Call, opening, update, query, Observation, value, found, body, Yield, done, executed, committed, observed, Answer}
+use Rattle.model.specs.Interface.{optimistic, execute, final, open-reader, close-reader, Query, read, find, show-body, Call, opening, update, query, Observation, version, found, body, Yield, done, executed, committed, observed, Answer}
 use Rattle.model.specs.Calls.{Transaction, is-key, leaves, Facts, refusal, shown, judged}
 use Rattle.model.specs.Start.{Version, no-version, Start, start-of, Object, objects-from}
 use Rattle.model.specs.Serial.{is-some}
@@ -85,9 +85,10 @@ held rs vs v = eqb (v .stamp) (newest vs .stamp) || any (λ r. eqb (v .stamp) (a
 unfoldable pub prune : List ℕ → List Version → List Version
 prune rs vs = keep (held rs vs) vs
 
--- the newest values, and the bounds
+-- the newest versions' values and stamps, and the bounds
 abbrev pub table : List (List Version) → List Bounds → Table
-table objs bs = record { look = λ o. newest (getD objs o []) .value; allow = λ o. inside (getD bs o no-bounds) }
+table objs bs =
+    record { look = λ o. newest (getD objs o []) .value; stamp = λ o. newest (getD objs o []) .stamp; allow = λ o. inside (getD bs o no-bounds) }
 
 -- the committed state ("committed table"): what the first pending transaction runs on
 abbrev pub committed-table : Replica → Table
@@ -189,7 +190,7 @@ module _ (l : Limits) where
 
   -- what a query yields
   abbrev pub reply : Replica → Query → Observation
-  reply u (read r o) = value (record { value = view (getD (u .readers) r none) (getD (u .objects) o []) .value })
+  reply u (read r o) = version (view (getD (u .readers) r none) (getD (u .objects) o []))
   reply u (find c s) = found (index (has-key c s) (u .pending)) (length (keyed u c s .sent .bytes))
   reply u (show-body c s) = body (shown (keyed u c s .sent .bytes) (refusal l (facts u) (query (find c s))))
 

@@ -2,19 +2,12 @@
 -- The replica and the serial table are both opened from it, so the theorem that they agree cannot catch a mistake in it; specs/CallExamples.antt computes it.
 use mathlib.Core.List.{List, [], _∷_, map}
 use Prim.Native.Nat.{ℕ}
-use lib.IntN.{ℤ, pos}
+use lib.IntN.{ℤ}
 use lib.ListN.{getD, drop, replicate}
 use Rattle.execution.specs.Bounds.{Bounds, no-bounds}
 use Rattle.model.specs.Interface.{Opening, by-values}
+pub use Rattle.model.specs.Interface.{Version, no-version}
 use Rattle.model.specs.Calls.{clients, bounds-from}
-
--- a version: a value with the commit timestamp of its store
-pub record Version : Type 0 where
-  pub stamp : ℕ
-  pub value : ℤ
-
-abbrev pub no-version : Version
-no-version = record { stamp = 0; value = pos 0 }
 
 pub record Start : Type 0 where
   pub timestamp : ℕ

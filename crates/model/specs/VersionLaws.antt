@@ -1,7 +1,7 @@
 -- Versions: what a commit, pruning and a reader's close leave to the newest version and to the open readers. Assumes nothing.
 use mathlib.Core.Path.{_≡_, refl, sym, ap, _∙_}
 use mathlib.Core.Logic.{_⊎_, inl, inr}
-use mathlib.Core.Bool.{Bool, true, false, _||_, false≢true}
+use mathlib.Core.Bool.{Bool, true, false, cond, _||_, false≢true}
 use mathlib.Core.Option.{Option, none, some, Option·getD, Option·map}
 use mathlib.Core.List.{List, [], _∷_, map}
 use Prim.Native.Nat.{ℕ, zero, suc, _≤_, _<_}
@@ -9,11 +9,12 @@ use native.Mathlib.Omega.{arith}
 use lib.IntN.{ℤ}
 use lib.Dec.{eqb, leb}
 use lib.ListN.{length, getD, set, List·getD-map}
-use borrow.Author.Tests.{eq-eqb, eqb-true, le-leb, lt-leb}
+use borrow.Author.Tests.{eq-eqb, eqb-true, le-leb, leb-true, lt-leb}
 use Rattle.execution.specs.Entries.{Entry, lookup}
 use Rattle.execution.specs.Bounds.{Bounds, no-bounds, inside}
 use Rattle.execution.specs.Run.{Table}
-use Rattle.model.specs.Lists.{pick, any, mapi}
+use Rattle.execution.specs.ReadAgreement.{both}
+use Rattle.model.specs.Lists.{pick, any, all, mapi}
 use Rattle.model.specs.declared.Limits.{Limits}
 use Rattle.model.specs.Interface.{Opening, by-values, opening}
 use Rattle.model.specs.Calls.{Facts, refusal}
@@ -68,6 +69,15 @@ pub as-of-now : (t : ℕ) (vs : List Version) → newest vs .stamp ≤ t → as-
 as-of-now t [] h = refl
 as-of-now t (v ∷ vs) h = rw (le-leb (v .stamp) t h)
 
+-- what a reader sees is one of the versions, or none
+pub as-of-one : (P : Version → Type 0) (r : ℕ) (vs : List Version) → P no-version → All P vs → P (as-of r vs)
+as-of-one P r [] n h = n
+as-of-one P r (v ∷ vs) n h = go′ (leb (v .stamp) r) (as-of-one P r vs n (h .1))
+  where
+    go′ : (b : Bool) → P (as-of r vs) → P (Option·getD (cond b (some v) (pick (λ w. leb (w .stamp) r) vs)) no-version)
+    go′ true k = h .0
+    go′ false k = k
+
 -- ---- a commit
 
 module _ (t : ℕ) (rs : List ℕ) (writes : List Entry) (objs : List (List Version)) where
@@ -89,6 +99,10 @@ module _ (t : ℕ) (rs : List ℕ) (writes : List Entry) (objs : List (List Vers
 
 abbrev pub Until : ℕ → List Version → Type 0
 Until t vs = newest vs .stamp ≤ t
+
+pub newest-until : (t : ℕ) (vs : List Version) → all (λ v. leb (v .stamp) t) vs ≡ true → Until t vs
+newest-until t [] h = omega arith
+newest-until t (v ∷ vs) h = leb-true (v .stamp) t (both (leb (v .stamp) t) (all (λ v. leb (v .stamp) t) vs) h .0)
 
 pub until-prune : (rs : List ℕ) (t : ℕ) (objs : List (List Version)) → All (Until t) objs → All (Until t) (map (prune rs) objs)
 until-prune rs t [] h = tt
@@ -118,11 +132,16 @@ opening-dated l f (by-values n vs los his t) e = go′ vs
 -- ---- the committed state as a table
 
 abbrev pub values-of : List Version → List Bounds → Table
-values-of objs bs = record { look = λ o. getD objs o no-version .value; allow = λ o. inside (getD bs o no-bounds) }
+values-of objs bs =
+    record { look = λ o. getD objs o no-version .value; stamp = λ o. getD objs o no-version .stamp; allow = λ o. inside (getD bs o no-bounds) }
 
 pub table-values : (objs : List (List Version)) (bs : List Bounds) → values-of (map newest objs) bs ≡ table objs bs
 table-values objs bs i =
-    record { look = λ o. List·getD-map newest objs o [] i .value; allow = λ o. inside (getD bs o no-bounds) }
+    record {
+      look = λ o. List·getD-map newest objs o [] i .value;
+      stamp = λ o. List·getD-map newest objs o [] i .stamp;
+      allow = λ o. inside (getD bs o no-bounds);
+    }
 
 pub table-prune : (rs : List ℕ) (objs : List (List Version)) (bs : List Bounds) → table (map (prune rs) objs) bs ≡ table objs bs
 table-prune rs objs bs =

@@ -26,7 +26,7 @@ part l (refused k) = (0, 0)
 part l (yielded Yield.done) = (0, 0)
 part l (yielded (Yield.executed n f)) = (0, 0)
 part l (yielded (Yield.committed r)) = (0, 0)
-part l (yielded (Yield.observed (Observation.value v))) = (0, 0)
+part l (yielded (Yield.observed (Observation.version v))) = (0, 0)
 part l (yielded (Yield.observed (Observation.found i n))) = (body-at l i, n)
 part l (yielded (Yield.observed (Observation.body b))) = (0, 0)
 

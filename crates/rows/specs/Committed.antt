@@ -1,7 +1,7 @@
--- The committed state as a list of values, where its bounds stand, and what the code asks of a record area to read them. Assumes nothing.
-use mathlib.Core.Path.{_≡_, refl, sym, ap, _∙_, fun-ext}
+-- The committed state as a list of values, where its stamps and bounds stand, and what the code asks of a record area to read them. Assumes nothing.
+use mathlib.Core.Path.{_≡_, refl, sym, ap, ap₂, _∙_, fun-ext}
 use mathlib.Core.Bool.{Bool, true, false, cond}
-use mathlib.Core.List.{List, [], _∷_}
+use mathlib.Core.List.{List, []}
 use Prim.Native.Nat.{ℕ, _+_, _*_, _≤_, _<_}
 use native.Mathlib.Omega.{arith}
 use native.Mathlib.Nat.{mul-le-mul-right, suc-mul}
@@ -13,32 +13,37 @@ use borrow.Author.Tests.{ltb-true, ltb-false}
 use mir.Syntax.{w64}
 use mir.Val.{toZ}
 use mir.Facts.{toZ-ofZ}
+use borrow.Rule.Slice.PartMut.{midOf}
 use Rattle.cells.specs.Cells.{cells}
-use Rattle.execution.specs.declared.BoundsAt.{BoundsAt}
+use Rattle.execution.specs.declared.ObjectsAt.{ObjectsAt}
 use Rattle.execution.specs.Bounds.{Bounds, no-bounds, inside}
-use Rattle.execution.specs.Run.{value-of, table-of, object-count}
-use Rattle.execution.specs.LentTable.{bounds-cell, object-bounds, lent-bounds, lent-allowed, lent-table, BoundsWithin}
+use Rattle.execution.specs.Run.{beside, value-of, table-of, object-count}
+use Rattle.execution.specs.LentTable.{bounds-cell, stamp-cell, object-bounds, lent-bounds, lent-allowed, lent-stamp, lent-beside, lent-table, BoundsWithin}
 use Rattle.model.specs.declared.Limits.{Limits}
-use Rattle.model.specs.Serial.{Version, no-version}
-use Rattle.model.specs.Replica.{Replica, newest, committed-table}
-use Rattle.model.specs.ListLaws.{All, all-in}
-use Rattle.layout.specs.Offsets.{Sane, size-at, object-width, object-at, value-at, lower-at, upper-at, record-length}
-use Rattle.layout.specs.Printable.{BoundsFit, VersionFits, ObjectFits}
-use Rattle.layout.specs.RowCells.{block-value}
+use Rattle.model.specs.Serial.{Version}
+use Rattle.model.specs.Replica.{Replica, newest, as-of, opens, committed-table}
+use Rattle.model.specs.Shape.{VersionsShape, Shape}
+use Rattle.model.specs.ListLaws.{All, all-in, all-implies}
+use Rattle.model.specs.VersionLaws.{Until, as-of-now, newest-until}
+use Rattle.versions.specs.Block.{block-versions}
+use Rattle.layout.specs.Offsets.{Sane, size-at, object-width, versions-width, object-at, stamp-at, lower-at, upper-at, record-length}
+use Rattle.layout.specs.Printable.{BoundsFit}
+use Rattle.layout.specs.RowCells.{block-newest}
 use Rattle.layout.specs.Holds.{Holds, holds-long}
-use Rattle.layout.specs.Reading.{get-size, get-object, get-lower, get-upper}
+use Rattle.layout.specs.Reading.{get-timestamp, get-size, get-object, get-lower, get-upper}
+use Rattle.layout.specs.LentBlock.{lent-object, lent-count}
 
--- the newest version's value of an object that begins at cell a
-abbrev pub value-from : List ℕ → ℕ → ℤ
-value-from cs a = toZ w64 (getD cs (a + value-at 0) 0)
+-- what a lookup at timestamp t gives in a block of k bytes that is lent from byte f on
+abbrev pub seen-from : List ℕ → ℕ → ℕ → ℕ → Version
+seen-from b t k f = as-of t (block-versions (cells (midOf f k b)))
 
--- that of object i of the area
-abbrev pub value-in : Limits → List ℕ → ℕ → ℤ
-value-in l cs i = value-from cs (object-at l i)
+-- that of object i at the replica's own timestamp: "so does the lookup below it, which a load from the committed table uses from now on"
+abbrev pub looked-up : Limits → List ℕ → ℕ → Version
+looked-up l b i = seen-from b (getD (cells b) 0 0) (versions-width l * 8) (object-at l i * 8)
 
--- where the bounds stand in the area
-abbrev pub bounds-place : Limits → BoundsAt
-bounds-place l = record { first = object-at l 0 + lower-at l; stride = object-width l }
+-- where the stamps and bounds stand in the area
+abbrev pub objects-place : Limits → ObjectsAt
+objects-place l = record { stamp = object-at l 0 + stamp-at 0; lower = object-at l 0 + lower-at l; stride = object-width l }
 
 -- a record area of its length, with no more objects than the limit and the local array allow
 pub record Laid (l : Limits) (b : List ℕ) : Type 0 where
@@ -46,12 +51,24 @@ pub record Laid (l : Limits) (b : List ℕ) : Type 0 where
   pub few : getD (cells b) (size-at l) 0 ≤ l .objects
   pub room : l .objects ≤ 128
 
--- n is the number of objects, and the first n values are the committed ones
-pub record Committed (l : Limits) (cs : List ℕ) (n : ℕ) (vs : List ℤ) : Type 0 where
-  pub size : n ≡ getD cs (size-at l) 0
+-- no object counts more versions than its block has room for
+abbrev pub Counted : Limits → List ℕ → Type 0
+Counted l b =
+    (o : ℕ) → o < getD (cells b) (size-at l) 0 → getD (cells (midOf (object-at l o * 8) (versions-width l * 8) b)) 0 0 ≤ l .readers + 1
+
+-- n is the number of objects, and the first n values are those that the lookup gives
+pub record Committed (l : Limits) (b : List ℕ) (n : ℕ) (vs : List ℤ) : Type 0 where
+  pub size : n ≡ getD (cells b) (size-at l) 0
   pub few : n ≤ 128
   pub room : length vs ≡ 128
-  pub values : (o : ℕ) → o < n → value-of vs o ≡ value-in l cs o
+  pub values : (o : ℕ) → o < n → value-of vs o ≡ looked-up l b o .value
+
+-- each object has a version, and none is later than the timestamp
+abbrev pub Current : Replica → Type 0
+Current u = All (λ (vs : List Version). (0 < length vs) × Until (u .timestamp) vs) (u .objects)
+
+pub current : {l : Limits} (u : Replica) → Shape l u → Current u
+current u h = all-implies (VersionsShape (u .timestamp) (opens (u .readers))) _ (λ vs k. (k .least, newest-until (u .timestamp) vs (k .bound))) (u .objects) (h .versions)
 
 -- ---- offsets
 
@@ -66,8 +83,11 @@ object-along l i a w ea ew = omega (arith, ea, ap (λ (k : ℕ). i * k) ew)
 pub size-inside : (l : Limits) → size-at l * 8 + 8 ≤ record-length l
 size-inside l = omega arith
 
--- where object i's bounds stand
-bounds-along : (l : Limits) (i : ℕ) → bounds-cell (bounds-place l) i ≡ object-at l i + lower-at l
+-- where object i's stamp and bounds stand
+stamp-along : (l : Limits) (i : ℕ) → stamp-cell (objects-place l) i ≡ object-at l i + stamp-at 0
+stamp-along l i = omega arith
+
+bounds-along : (l : Limits) (i : ℕ) → bounds-cell (objects-place l) i ≡ object-at l i + lower-at l
 bounds-along l i = omega arith
 
 -- ---- of an area that holds a replica
@@ -77,47 +97,68 @@ pair-same : {a b x y : ℤ} → a ≡ b → x ≡ y → _≡_ {A = Bounds} (reco
 pair-same e f j = record { lower = e j; upper = f j }
 
 module _ (l : Limits) (s : Sane l) (b : List ℕ) (u : Replica) (h : Holds l b u) where
-  pub bounds-back : (i : ℕ) → i < length (u .objects) → object-bounds (bounds-place l) (cells b) i ≡ getD (u .bounds) i no-bounds
+  pub bounds-back : (i : ℕ) → i < length (u .objects) → object-bounds (objects-place l) (cells b) i ≡ getD (u .bounds) i no-bounds
   bounds-back i k =
       let g = all-in BoundsFit (u .bounds) i no-bounds (h .fits .bounds .1) (omega (arith, h .fits .bounds .0)) in
-      let upper : bounds-cell (bounds-place l) i + 1 ≡ object-at l i + upper-at l = omega arith in
+      let upper : bounds-cell (objects-place l) i + 1 ≡ object-at l i + upper-at l = omega arith in
       pair-same (read (bounds-along l i) ∙ ap (toZ w64) (get-lower l s b u h i k) ∙ toZ-ofZ (g .0)) (read upper ∙ ap (toZ w64) (get-upper l s b u h i k) ∙ toZ-ofZ (g .1))
     where
       read : {x y : ℕ} → x ≡ y → toZ w64 (getD (cells b) x 0) ≡ toZ w64 (getD (cells b) y 0)
       read e = ap (λ (a : ℕ). toZ w64 (getD (cells b) a 0)) e
 
   -- the bounds of the objects, and of any other none
-  bounds-there : (o : ℕ) → lent-bounds (length (u .objects)) (bounds-place l) (cells b) o ≡ getD (u .bounds) o no-bounds
+  bounds-there : (o : ℕ) → lent-bounds (length (u .objects)) (objects-place l) (cells b) o ≡ getD (u .bounds) o no-bounds
   bounds-there o = go′ (ltb o (length (u .objects))) refl
     where
-      go′ : (t : Bool) → ltb o (length (u .objects)) ≡ t → cond t (object-bounds (bounds-place l) (cells b) o) no-bounds ≡ getD (u .bounds) o no-bounds
+      go′ : (t : Bool) → ltb o (length (u .objects)) ≡ t → cond t (object-bounds (objects-place l) (cells b) o) no-bounds ≡ getD (u .bounds) o no-bounds
       go′ true e = bounds-back o (ltb-true o (length (u .objects)) e)
       go′ false e = let m = ltb-false o (length (u .objects)) e in sym (List·getD-eq-default (u .bounds) no-bounds (omega (arith, h .fits .bounds .0)))
 
-  pub allowed-back : lent-allowed (length (u .objects)) (bounds-place l) (cells b) ≡ committed-table u .allow
+  pub allowed-back : lent-allowed (length (u .objects)) (objects-place l) (cells b) ≡ committed-table u .allow
   allowed-back = fun-ext (λ o. ap inside (bounds-there o))
 
-  pub bounds-within : BoundsWithin (bounds-place l) (length (u .objects)) (length b)
+  pub bounds-within : BoundsWithin (objects-place l) (length (u .objects)) (length b)
   bounds-within o k =
       let m : o < l .objects = omega (arith, h .fits .objects .0) in
       omega (arith, bounds-along l o, object-cell-inside l o (upper-at l) m (omega arith), holds-long l s b u h)
 
-  module _ (some-version : All (λ (vs : List Version). 0 < length vs) (u .objects)) where
-    pub value-back : (i : ℕ) → i < length (u .objects) → value-in l (cells b) i ≡ newest (getD (u .objects) i []) .value
-    value-back i k =
+  pub counted : Counted l b
+  counted o k = lent-count l s b u h o (omega (arith, get-size l s b u h)) (object-at l o) (versions-width l * 8) refl refl
+
+  module _ (now : Current u) where
+    -- the lookup gives the newest version
+    pub looked-back : (i : ℕ) → i < length (u .objects) → looked-up l b i ≡ newest (getD (u .objects) i [])
+    looked-back i k =
         let vs = getD (u .objects) i [] in
-        let g = all-in (ObjectFits (l .readers)) (u .objects) i [] (h .fits .objects .1) k in
-        let some = all-in (λ (vs : List Version). 0 < length vs) (u .objects) i [] some-version k in
-        ap (toZ w64) (get-object l s b u h i k 2 (omega arith) ∙ block-value l vs 0 some no-version)
-        ∙ toZ-ofZ (all-in VersionFits vs 0 no-version (g .1) some .1)
-        ∙ head-newest vs some
+        ap₂ as-of (get-timestamp l s b u h) (lent-object l s b u h i k (object-at l i) (versions-width l * 8) refl refl)
+        ∙ as-of-now (u .timestamp) vs (all-in (λ (vs : List Version). (0 < length vs) × Until (u .timestamp) vs) (u .objects) i [] now k .1)
+
+    -- so does the stamp where it stands
+    stamp-back : (i : ℕ) → i < length (u .objects) → getD (cells b) (stamp-cell (objects-place l) i) 0 ≡ newest (getD (u .objects) i []) .stamp
+    stamp-back i k =
+        ap (λ (a : ℕ). getD (cells b) a 0) (stamp-along l i)
+        ∙ get-object l s b u h i k (stamp-at 0) (omega arith)
+        ∙ block-newest l (getD (u .objects) i []) (all-in (λ (vs : List Version). (0 < length vs) × Until (u .timestamp) vs) (u .objects) i [] now k .0)
+
+    -- a run's table has the stamps that the lookup gives beside its values
+    pub stamp-looked-up : (i : ℕ) → i < length (u .objects) → getD (cells b) (stamp-cell (objects-place l) i) 0 ≡ looked-up l b i .stamp
+    stamp-looked-up i k = stamp-back i k ∙ sym (ap (λ (v : Version). v .stamp) (looked-back i k))
+
+    -- the stamps of the objects, and of any other 0
+    stamp-there : (o : ℕ) → lent-stamp (length (u .objects)) (objects-place l) (cells b) o ≡ newest (getD (u .objects) o []) .stamp
+    stamp-there o = go′ (ltb o (length (u .objects))) refl
       where
-        head-newest : (vs : List Version) → 0 < length vs → getD vs 0 no-version .value ≡ newest vs .value
-        head-newest [] p = absurd (omega arith)
-        head-newest (v ∷ vs) p = refl
+        go′ : (t : Bool) → ltb o (length (u .objects)) ≡ t → cond t (getD (cells b) (stamp-cell (objects-place l) o) 0) 0 ≡ newest (getD (u .objects) o []) .stamp
+        go′ true e = stamp-back o (ltb-true o (length (u .objects)) e)
+        go′ false e =
+            let m = ltb-false o (length (u .objects)) e in
+            ap (λ (vs : List Version). newest vs .stamp) (sym (List·getD-eq-default (u .objects) [] (omega arith)))
+
+    pub beside-back : lent-beside (length (u .objects)) (objects-place l) (cells b) ≡ beside (committed-table u)
+    beside-back j = record { stamp = fun-ext stamp-there j; allow = allowed-back j }
 
     -- the code's values, up to the last object's, are the model's
-    module _ {n : ℕ} {ts : List ℤ} (c : Committed l (cells b) n ts) where
+    module _ {n : ℕ} {ts : List ℤ} (c : Committed l b n ts) where
       pub committed-size : n ≡ length (u .objects)
       committed-size = c .size ∙ get-size l s b u h
 
@@ -133,18 +174,18 @@ module _ (l : Limits) (s : Sane l) (b : List ℕ) (u : Replica) (h : Holds l b u
           go′ : (t : Bool) → ltb o n ≡ t → value-of (take n ts) o ≡ newest (getD (u .objects) o []) .value
           go′ true e =
               let m = ltb-true o n e in
-              getD-take n ts o (pos 0) m ∙ c .values o m ∙ value-back o (omega (arith, committed-size))
+              getD-take n ts o (pos 0) m ∙ c .values o m ∙ ap (λ (v : Version). v .value) (looked-back o (omega (arith, committed-size)))
           go′ false e =
               let m = ltb-false o n e in
               List·getD-eq-default (take n ts) (pos 0) (omega (arith, length-take-le n ts committed-room))
               ∙ ap (λ (vs : List Version). newest vs .value) (sym (List·getD-eq-default (u .objects) [] (omega (arith, committed-size))))
 
-      pub committed-back : table-of (take n ts) (committed-table u .allow) ≡ committed-table u
-      committed-back j = record { look = fun-ext value-there j; allow = committed-table u .allow }
+      pub committed-back : table-of (take n ts) (beside (committed-table u)) ≡ committed-table u
+      committed-back j = record { look = fun-ext value-there j; stamp = committed-table u .stamp; allow = committed-table u .allow }
 
-      -- with the bounds where they stand
-      pub committed-lent : lent-table (take n ts) (bounds-place l) (cells b) ≡ committed-table u
+      -- with the stamps and bounds where they stand
+      pub committed-lent : lent-table (take n ts) (objects-place l) (cells b) ≡ committed-table u
       committed-lent =
-          ap (λ (k : ℕ). table-of (take n ts) (lent-allowed k (bounds-place l) (cells b))) committed-count
-          ∙ ap (table-of (take n ts)) allowed-back
+          ap (λ (k : ℕ). table-of (take n ts) (lent-beside k (objects-place l) (cells b))) committed-count
+          ∙ ap (table-of (take n ts)) beside-back
           ∙ committed-back

@@ -1,7 +1,7 @@
 // One row: its run read into local arrays and written back, once each; its writes laid over a table as they stand. And the committed state: its
-// values as a local table, and where its bounds stand.
-use execution::BoundsAt;
+// values as a local table, and where its stamps and bounds stand.
 use execution::Counts;
+use execution::ObjectsAt;
 use model::Limits;
 ghost use mathlib.Core.Path.{_≡_};
 ghost use mathlib.Core.Bool.{Bool, true};
@@ -13,12 +13,12 @@ ghost use mir.Syntax.{w64};
 ghost use mir.Val.{ofZ};
 ghost use Rattle.cells.specs.Cells.{cells, splice};
 ghost use Rattle.operation.specs.Body.{register-count};
-ghost use Rattle.execution.specs.Run.{table-of, object-count, over};
+ghost use Rattle.execution.specs.Run.{Beside, table-of, object-count, over};
 ghost use Rattle.execution.specs.RunShape.{every, sound};
 ghost use Rattle.execution.specs.Arrays.{capacity, entries, Room};
 ghost use Rattle.layout.specs.Offsets.{Sane, register-at, reads-at, entry-at};
 ghost use Rattle.rows.specs.RowRun.{entries-in, registers-in, run-in, Readable, Loaded, front, entry-cells, Behind, Storable, Stored};
-ghost use Rattle.rows.specs.Committed.{Laid, Committed, bounds-place};
+ghost use Rattle.rows.specs.Committed.{Laid, Counted, Committed, objects-place};
 
 // The registers of a row. The loop fills the array: the places passed have their cells' values.
 fn load_registers(row: &[u8], registers: &mut [i64; 4])
@@ -81,8 +81,7 @@ pub fn load_row(
 pub fn overlay_writes(row: &[u8], table: &mut [i64])
     requires { ⌜ Readable (now row) ⌝ }
     requires { ⌜ every (sound (object-count (now table))) (run-in (cells (now row)) .writes) ≡ true ⌝ }
-    ensures table { λ _. ⌜ ((allow : ℕ → ℤ → Bool) → table-of (now (table .exit)) allow
-        ≡ over (run-in (cells (now (row .entry))) .writes) (table-of (now (table .entry)) allow)) ⌝ }
+    ensures table { λ _. ⌜ ((b : Beside) → table-of (now (table .exit)) b ≡ over (run-in (cells (now (row .entry))) .writes) (table-of (now (table .entry)) b)) ⌝ }
     ensures size { λ _. ⌜ object-count (now (table .exit)) ≡ object-count (now (table .entry)) ⌝ }
 {
     let reads = cells::get(row, layout::ROW_READS) as usize;
@@ -96,30 +95,37 @@ pub fn overlay_writes(row: &[u8], table: &mut [i64])
     }
 }
 
-// The committed state: of each object the value of its newest version; the objects passed have theirs. The number of objects.
+// The committed state: of each object the value that a reader opened now would see, by the lookup that readers use; the objects passed have theirs.
+// The number of objects. Their stamps are not gathered: they stand in the record area, which is lent beside the values.
 pub fn committed_values(records: &[u8], l: Limits, table: &mut [i64; 128]) -> usize
-    requires { ⌜ Sane l × Laid l (now records) × (length (now table) ≡ 128) ⌝ }
-    ensures { λ n. ⌜ Committed l (cells (now (records .entry))) n (now (table .exit)) ⌝ }
+    requires { ⌜ Sane l × Laid l (now records) × Counted l (now records) × (length (now table) ≡ 128) ⌝ }
+    ensures { λ n. ⌜ Committed l (now (records .entry)) n (now (table .exit)) ⌝ }
 {
     let n = cells::get(records, layout::size_at(l)) as usize;
-    let width = layout::object_width(l);
-    let mut at = layout::object_at(l, 0);
+    let timestamp = cells::get(records, layout::TIMESTAMP);
+    let block = layout::bounds_at(l) * 8;
+    let width = layout::object_width(l) * 8;
+    let mut first = layout::object_at(l, 0) * 8;
     let mut i = 0;
     while i < n {
-        table[i] = cells::get_signed(records, at + layout::NEWEST_VALUE);
-        at += width;
+        let end = first + block;
+        let value = versions::lookup(&records[first..end], timestamp).value;
+        table[i] = value;
+        first += width;
         i += 1;
     }
     n
 }
 
-// Where the bounds of the objects stand in the record area.
-pub fn bounds_place(l: Limits) -> BoundsAt
+// Where the stamps and the bounds of the objects stand in the record area.
+pub fn objects_place(l: Limits) -> ObjectsAt
     requires { ⌜ Sane l ⌝ }
-    ensures { λ p. ⌜ p ≡ bounds-place l ⌝ }
+    ensures { λ p. ⌜ p ≡ objects-place l ⌝ }
 {
-    BoundsAt {
-        first: layout::object_at(l, 0) + layout::bounds_at(l),
+    let first = layout::object_at(l, 0);
+    ObjectsAt {
+        stamp: first + layout::NEWEST_STAMP,
+        lower: first + layout::bounds_at(l),
         stride: layout::object_width(l),
     }
 }

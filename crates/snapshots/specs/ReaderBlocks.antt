@@ -1,4 +1,4 @@
--- The objects' blocks of a record area, lent to be read or pruned. Assumes nothing.
+-- The objects' blocks of a record area, lent to be pruned. Assumes nothing.
 use mathlib.Core.Path.{_≡_, refl, sym, ap, ap₂, _∙_}
 use mathlib.Core.List.{List, [], _∷_, _++_, map, append-nil}
 use Prim.Native.Nat.{ℕ, suc, _+_, _*_, _^_, _≤_, _<_, _-_}
@@ -54,17 +54,6 @@ prune-fits n rs vs g = (omega (arith, length-keep (held rs vs) vs, g .0), all-ke
 module _ (l : Limits) (s : Sane l) (b : List ℕ) (u : Replica) (h : Holds l b u) where
   fits : (i : ℕ) → i < length (u .objects) → ObjectFits (l .readers) (getD (u .objects) i [])
   fits i k = all-in (ObjectFits (l .readers)) (u .objects) i [] (h .fits .objects .1) k
-
-  -- object i's block, lent
-  module _ (i : ℕ) (low : i < length (u .objects)) (a k : ℕ) (ea : a ≡ object-at l i) (ek : k ≡ versions-width l * 8) where
-    pub lent-object : block-versions (cells (midOf (a * 8) k b)) ≡ getD (u .objects) i []
-    lent-object =
-        let vs = getD (u .objects) i [] in
-        parsed (l .readers) vs (midOf (a * 8) k b) (fits-small vs (fits i low .1)) (omega (arith, fits i low .0, s .readers))
-        (rw (ea, ek) (object-part l s b u h i low))
-
-    pub lent-count : getD (cells (midOf (a * 8) k b)) 0 0 ≤ l .readers + 1
-    lent-count = omega (arith, length-block-versions (cells (midOf (a * 8) k b)), ap length lent-object, fits i low .0)
 
   -- the readers' cells, from cell f up to cell t, copied over all of old
   pub copied-readers : (f t : ℕ) → f ≡ reader-at 0 → t ≡ size-at l → (old rs : List ℕ) → length old ≡ l .readers * 8

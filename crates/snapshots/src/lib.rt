@@ -1,5 +1,6 @@
 // The readers' calls on a lent record area that passed the shape check: a reader ("snapshot") takes the current timestamp when it is opened,
 // reads each object as of that timestamp, and is closed, whereupon the versions that it alone held go.
+use model::CommitTimestamp;
 use model::Limits;
 use model::Reading;
 use model::Reply;
@@ -27,7 +28,7 @@ pub fn open_reader(records: &mut [u8], l: Limits, reader: u32) -> Reply
     Reply::Done
 }
 
-// What an open reader sees of an object: looked up in the block of its versions by the reader's stamp, which its cell has with 1 added.
+// The version that an open reader sees of an object: looked up in the block of its versions by the reader's stamp, which its cell has with 1 added.
 pub fn read(records: &[u8], l: Limits, reader: u32, object: u32) -> Reading
     requires { ⌜ Supported l ⌝ }
     requires { ⌜ HoldsShaped l (now records) ⌝ }
@@ -47,7 +48,8 @@ pub fn read(records: &[u8], l: Limits, reader: u32, object: u32) -> Reading
     }
     let first = layout::object_at(l, o) * 8;
     let end = first + layout::bounds_at(l) * 8;
-    Reading::Value(versions::lookup(&records[first..end], cell - 1))
+    let seen = versions::lookup(&records[first..end], cell - 1);
+    Reading::Version(seen.value, CommitTimestamp(seen.stamp as u32))
 }
 
 // The versions that no open reader holds any more go, now that the reader with this cell is closed. Pruning takes the readers' cells beside the

@@ -27,7 +27,7 @@ use Rattle.layout.specs.Bodies.{same-bodies}
 use Rattle.layout.specs.Fit.{fit, shape-fits, fit-holds, fit-bodies, fit-shape}
 use Rattle.layout.specs.Act.{act}
 use Rattle.layout.specs.Areas.{act-refused, act-accepted}
-use Rattle.rows.specs.Committed.{Laid, Committed, committed-count, committed-back}
+use Rattle.rows.specs.Committed.{Laid, Counted, Committed, current, counted, committed-count, committed-back}
 use Rattle.speculative_execution.specs.Passing.{counted-most, all-worked, after-work, Worked, accepted, new-shape}
 use Rattle.speculative_execution.specs.LentAreas.{Begun}
 
@@ -87,12 +87,11 @@ module _ {l : Limits} {records bodies : List ℕ} (k : Asked l records bodies) (
   pub readable : Laid l records
   readable = record { whole = holds-long l s records u holds; few = omega (arith, get-size l s records u holds, shape .few-objects); room = k .objects }
 
-  -- the committed table, as the local array has it, is the first one
-  module _ {n : ℕ} {vs : List ℤ} (v : Committed l (cells records) n vs) (c : ℕ) (low : c ≤ most-work) where
-    some-version : All (λ (x : List Version). 0 < length x) (u .objects)
-    some-version =
-        all-implies (VersionsShape (u .timestamp) (opens (u .readers))) (λ (x : List Version). 0 < length x) (λ x h. h .least) (u .objects) (shape .versions)
+  pub counted-blocks : Counted l records
+  counted-blocks = counted l s records u holds
 
+  -- the committed table, as the local array has it, is the first one
+  module _ {n : ℕ} {vs : List ℤ} (v : Committed l records n vs) (c : ℕ) (low : c ≤ most-work) where
     pub begun : Begun l records bodies (take n vs) c
     begun =
         record {
@@ -100,8 +99,8 @@ module _ {l : Limits} {records bodies : List ℕ} (k : Asked l records bodies) (
           few = k .few;
           fit = k .fit;
           allowed = low;
-          table = committed-back l s records u holds some-version v;
-          size = committed-count l s records u holds some-version v;
+          table = committed-back l s records u holds (current u shape) v;
+          size = committed-count l s records u holds (current u shape) v;
         }
 
   module _ (c : ℕ) (low : c ≤ most-work) {ys : List ℕ} {n f : ℕ} (w : Worked l u c ys n f) where

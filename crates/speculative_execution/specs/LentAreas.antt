@@ -10,9 +10,9 @@ use lib.ListN.{length, getD}
 use borrow.Rule.Slice.PartMut.{midOf, putMid}
 use Rattle.cells.specs.Cells.{cells, uncells, Below}
 use Rattle.operation.specs.Body.{size, body-length}
-use Rattle.execution.specs.declared.BoundsAt.{BoundsAt}
-use Rattle.execution.specs.Run.{object-count}
-use Rattle.execution.specs.LentTable.{lent-allowed, BoundsWithin}
+use Rattle.execution.specs.declared.ObjectsAt.{ObjectsAt}
+use Rattle.execution.specs.Run.{Beside, beside, object-count}
+use Rattle.execution.specs.LentTable.{lent-beside, BoundsWithin}
 use Rattle.execution.specs.Arrays.{capacity}
 use Rattle.model.specs.declared.Limits.{Limits}
 use Rattle.model.specs.Calls.{most-work}
@@ -26,10 +26,10 @@ use Rattle.layout.specs.Reading.{get-pending}
 use Rattle.layout.specs.Bodies.{body-part, body-size, body-span}
 use Rattle.layout.specs.Fit.{fit, fit-holds, fit-bodies, fit-shape}
 use Rattle.layout.specs.Printable.{few-pending}
-use Rattle.rows.specs.Committed.{bounds-place, allowed-back, bounds-within}
+use Rattle.rows.specs.Committed.{current, objects-place, beside-back, bounds-within}
 use Rattle.speculative_turn.specs.declared.Advanced.{Advanced}
-use Rattle.speculative_turn.specs.Advance.{Allow, Ready, Leaves}
-use Rattle.speculative_turn.specs.AreaRow.{allow-in, ReadyAt, LeavesAt}
+use Rattle.speculative_turn.specs.Advance.{Ready, Leaves}
+use Rattle.speculative_turn.specs.AreaRow.{beside-in, ReadyAt, LeavesAt}
 use Rattle.speculative_execution.specs.Passing.{nobody, formed-at, bounded-by, Going, Worked, going-first, going-last, lent-row, turn-ready, turn-most, turn-next, turn-last}
 
 -- areas that passed the shape check, beside the committed table and a budget
@@ -111,23 +111,23 @@ module _ {l : Limits} {records bodies : List ℕ} {vs : List ℤ} {budget : ℕ}
           ∙ ap (λ (x : ℕ). midOf x (x + body-length (getD bodies x 0) - x) bodies) ea
           ∙ lent-body (g .sane) records bodies (g .fit) b i h (getD bodies (body-at l i) 0) refl
 
-      -- the bounds in the area, which has only rows changed, are the committed ones
-      allow-here : {p : BoundsAt} → p ≡ bounds-place l → allow-in here p ts ≡ committed-table u₀ .allow
-      allow-here ep =
-          ap₂ (λ (n : ℕ) (q : BoundsAt). lent-allowed n q (cells here)) (k .size) ep ∙ allowed-back l (g .sane) here _ (k .holds)
+      -- stamps and bounds in the area, which has only rows changed, are the committed ones
+      beside-here : {p : ObjectsAt} → p ≡ objects-place l → beside-in here p ts ≡ beside (committed-table u₀)
+      beside-here ep =
+          ap₂ (λ (n : ℕ) (q : ObjectsAt). lent-beside n q (cells here)) (k .size) ep ∙ beside-back l (g .sane) here _ (k .holds) (current u₀ shape)
 
-      pub lent-ready : {p : BoundsAt} → p ≡ bounds-place l → e * 8 ≤ length here → ReadyAt here p (r * 8) (e * 8) body-bytes ts left
+      pub lent-ready : {p : ObjectsAt} → p ≡ objects-place l → e * 8 ≤ length here → ReadyAt here p (r * 8) (e * 8) body-bytes ts left
       lent-ready {p} ep inside =
           record {
             order = omega (arith, er, ee);
             inside = inside;
-            bounded = subst (λ (n : ℕ). BoundsWithin p n (length here)) (sym (k .size)) (subst (λ (q : BoundsAt). BoundsWithin q (length (u₀ .objects)) (length here)) (sym ep) (bounds-within l (g .sane) here _ (k .holds)));
-            ready = subst (λ (A : Allow). Ready row-bytes body-bytes ts A left) (sym (allow-here ep)) (turn-ready (g .sane) (g .few) shape budget (g .allowed) k h is-row is-body);
+            bounded = subst (λ (n : ℕ). BoundsWithin p n (length here)) (sym (k .size)) (subst (λ (q : ObjectsAt). BoundsWithin q (length (u₀ .objects)) (length here)) (sym ep) (bounds-within l (g .sane) here _ (k .holds)));
+            ready = subst (λ (A : Beside). Ready row-bytes body-bytes ts A left) (sym (beside-here ep)) (turn-ready (g .sane) (g .few) shape budget (g .allowed) k h is-row is-body);
           }
 
-      module _ {p : BoundsAt} (ep : p ≡ bounds-place l) {a : Advanced} {zs : List ℕ} {ws : List ℤ} (at-area : LeavesAt here p (r * 8) (e * 8) body-bytes ts left a zs ws) where
-        lv : Leaves row-bytes body-bytes ts (committed-table u₀ .allow) left a (at-area .new-row) ws
-        lv = subst (λ (A : Allow). Leaves row-bytes body-bytes ts A left a (at-area .new-row) ws) (allow-here ep) (at-area .leaves)
+      module _ {p : ObjectsAt} (ep : p ≡ objects-place l) {a : Advanced} {zs : List ℕ} {ws : List ℤ} (at-area : LeavesAt here p (r * 8) (e * 8) body-bytes ts left a zs ws) where
+        lv : Leaves row-bytes body-bytes ts (beside (committed-table u₀)) left a (at-area .new-row) ws
+        lv = subst (λ (A : Beside). Leaves row-bytes body-bytes ts A left a (at-area .new-row) ws) (beside-here ep) (at-area .leaves)
 
         is-back : zs ≡ putMid (row-at l i * 8) (row-width l * 8) here (at-area .new-row)
         is-back = at-area .back ∙ ap₂ (λ (x y : ℕ). putMid (x * 8) y here (at-area .new-row)) er width

@@ -16,7 +16,7 @@ use Rattle.cells.specs.Cells.{cells, uncells}
 use Rattle.operation.specs.Body.{operations, is-well-formed}
 use Rattle.operation.specs.BodyLaws.{Formed, formed, well-formed}
 use Rattle.operation.specs.declared.Operation.{Operation}
-use Rattle.execution.specs.Run.{Table, table-of, object-count, Run, start, ended, step, steps, counted, over}
+use Rattle.execution.specs.Run.{Table, beside, table-of, object-count, Run, start, ended, step, steps, counted, over}
 use Rattle.execution.specs.RunShape.{every, sound, Shaped}
 use Rattle.execution.specs.Arrays.{capacity}
 use Rattle.model.specs.declared.Limits.{Limits}
@@ -144,9 +144,9 @@ all-counted u c = work-count (committed-table u) c (u .pending)
 abbrev pub after-work : Replica → ℕ → Replica
 after-work u c = with-pending (all-worked u c) u
 
--- values as a table with the committed bounds, which work does not change
+-- values as a table with the committed stamps and bounds, which work does not change
 abbrev pub bounded-by : Replica → List ℤ → Table
-bounded-by u vs = table-of vs (committed-table u .allow)
+bounded-by u vs = table-of vs (beside (committed-table u))
 
 -- before turn i: the first i transactions are worked on, finished, and their writes are over the table; `left` operations of c are left
 pub record Going (l : Limits) (u : Replica) (c : ℕ) (records : List ℕ) (vs : List ℤ) (i left : ℕ) : Type 0 where
@@ -277,10 +277,10 @@ module _ {l : Limits} (s : Sane l) (few : l .operations ≤ capacity) {u : Repli
       was : before xs ≡ j .run
       was = ap (λ (x : List ℕ). run-in (cells x)) ex ∙ row-run m (row-of j) old-row room
 
-      is : after xs body vs (committed-table u .allow) left ≡ w .run
+      is : after xs body vs (beside (committed-table u)) left ≡ w .run
       is = ap₂ (λ (x : List ℕ) (p : Run). steps S (operations x) left p) eb was ∙ sym ran
 
-      pub turn-ready : Ready xs body vs (committed-table u .allow) left
+      pub turn-ready : Ready xs body vs (beside (committed-table u)) left
       turn-ready =
           let q = is in
           let long = row-bytes m (row-of j) room old-row xs ex in
@@ -302,7 +302,7 @@ module _ {l : Limits} (s : Sane l) (few : l .operations ≤ capacity) {u : Repli
             sound = ap₂ (λ (n : ℕ) (p : Run). every (sound n) (p .writes)) (g .size) q ∙ new-shaped .writes .values;
           }
 
-      module _ {a : Advanced} {ys : List ℕ} {ws : List ℤ} (lv : Leaves xs body vs (committed-table u .allow) left a ys ws) where
+      module _ {a : Advanced} {ys : List ℕ} {ws : List ℤ} (lv : Leaves xs body vs (beside (committed-table u)) left a ys ws) where
         taken : a .used ≡ used S left j
         taken = lv .used ∙ ap₂ (λ (x : List ℕ) (p : Run). counted S (operations x) left p) eb was
 

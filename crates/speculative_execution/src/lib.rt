@@ -30,7 +30,7 @@ fn execute_pending(
     ensures { λ r. ⌜ Worked l (parse l (now (records .entry), now (bodies .entry))) budget (now (records .exit)) (r .operations) (r .finished) ⌝ }
 {
     let pending = cells::get(records, layout::pending_at(l)) as usize;
-    let bounds = rows::bounds_place(l);
+    let objects = rows::objects_place(l);
     let mut left = budget;
     let mut i = 0;
     while i < pending {
@@ -40,7 +40,7 @@ fn execute_pending(
         let end = at + operation::body_length(operation::small(bodies[at]));
         let a = speculative_turn::advance(
             records,
-            bounds,
+            objects,
             row,
             next,
             &bodies[at..end],

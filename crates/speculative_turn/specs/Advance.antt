@@ -12,7 +12,7 @@ use Rattle.operation.specs.Body.{register-count, operations, is-well-formed}
 use Rattle.operation.specs.declared.Operation.{Operation}
 use Rattle.operation.specs.BodyLaws.{formed}
 use Rattle.execution.specs.declared.Counts.{Counts}
-use Rattle.execution.specs.Run.{Table, table-of, object-count, Run, is-none, due-at, ended, steps, counted, over}
+use Rattle.execution.specs.Run.{Table, Beside, table-of, object-count, Run, is-none, due-at, ended, steps, counted, over}
 use Rattle.execution.specs.ReadAgreement.{stay}
 use Rattle.execution.specs.RunShape.{every, sound}
 use Rattle.execution.specs.Arrays.{capacity, entries, run-of-arrays, Lent}
@@ -27,46 +27,42 @@ use Rattle.rows.specs.Loading.{row-run, row-length}
 use Rattle.rows.specs.Storing.{stored-back}
 use Rattle.speculative_turn.specs.declared.Advanced.{Advanced}
 
--- what each object may take
-abbrev pub Allow : Type 0
-Allow = ℕ → ℤ → Bool
-
 -- the run on record in a row, and the one that at most `budget` operations on the table `vs` make of it
 abbrev pub before : List ℕ → Run
 before xs = run-in (cells xs)
 
-abbrev pub after : List ℕ → List ℕ → List ℤ → Allow → ℕ → Run
-after xs body vs allow budget = steps (table-of vs allow) (operations body) budget (before xs)
+abbrev pub after : List ℕ → List ℕ → List ℤ → Beside → ℕ → Run
+after xs body vs rest budget = steps (table-of vs rest) (operations body) budget (before xs)
 
-abbrev pub operations-used : List ℕ → List ℕ → List ℤ → Allow → ℕ → ℕ
-operations-used xs body vs allow budget = counted (table-of vs allow) (operations body) budget (before xs)
+abbrev pub operations-used : List ℕ → List ℕ → List ℤ → Beside → ℕ → ℕ
+operations-used xs body vs rest budget = counted (table-of vs rest) (operations body) budget (before xs)
 
 -- a row xs with its body, over a table of all objects: it can be read and run, and has room for what comes of it
-pub record Ready (xs body : List ℕ) (vs : List ℤ) (allow : Allow) (budget : ℕ) : Type 0 where
+pub record Ready (xs body : List ℕ) (vs : List ℤ) (rest : Beside) (budget : ℕ) : Type 0 where
   pub readable : Readable xs
   pub formed : is-well-formed capacity (object-count vs) body ≡ true
   pub reads : length (before xs .reads) ≤ before xs .counter
   pub writes : length (before xs .writes) ≤ before xs .counter
-  pub registers : length (after xs body vs allow budget .registers) ≡ register-count
-  pub few : length (after xs body vs allow budget .reads) + length (after xs body vs allow budget .writes) ≤ capacity
-  pub long : entry-at (length (after xs body vs allow budget .reads) + length (after xs body vs allow budget .writes)) * 8 ≤ length xs
-  pub sound : every (sound (object-count vs)) (after xs body vs allow budget .writes) ≡ true
+  pub registers : length (after xs body vs rest budget .registers) ≡ register-count
+  pub few : length (after xs body vs rest budget .reads) + length (after xs body vs rest budget .writes) ≤ capacity
+  pub long : entry-at (length (after xs body vs rest budget .reads) + length (after xs body vs rest budget .writes)) * 8 ≤ length xs
+  pub sound : every (sound (object-count vs)) (after xs body vs rest budget .writes) ≡ true
 
 -- the row ys holds the run q, if xs was the row of one
 abbrev pub Rewritten : List ℕ → List ℕ → Run → Type 0
 Rewritten xs ys q = (m : ℕ) (r : Row) → m < 2 ^ 64 → RowFits m r → xs ≡ uncells (row m .enc r) → ys ≡ uncells (row m .enc (r .0, q))
 
 -- what a turn leaves: the row ys, and the table ws, which a finished transaction's writes are over
-pub record Leaves (xs body : List ℕ) (vs : List ℤ) (allow : Allow) (budget : ℕ) (a : Advanced) (ys : List ℕ) (ws : List ℤ) : Type 0 where
-  pub used : a .used ≡ operations-used xs body vs allow budget
-  pub finished : a .finished ≡ ended (operations body) (after xs body vs allow budget)
-  pub row : Rewritten xs ys (after xs body vs allow budget)
-  pub table : table-of ws allow ≡ cond (ended (operations body) (after xs body vs allow budget)) (over (after xs body vs allow budget .writes) (table-of vs allow)) (table-of vs allow)
+pub record Leaves (xs body : List ℕ) (vs : List ℤ) (rest : Beside) (budget : ℕ) (a : Advanced) (ys : List ℕ) (ws : List ℤ) : Type 0 where
+  pub used : a .used ≡ operations-used xs body vs rest budget
+  pub finished : a .finished ≡ ended (operations body) (after xs body vs rest budget)
+  pub row : Rewritten xs ys (after xs body vs rest budget)
+  pub table : table-of ws rest ≡ cond (ended (operations body) (after xs body vs rest budget)) (over (after xs body vs rest budget .writes) (table-of vs rest)) (table-of vs rest)
 
 -- the run after the operations stands in these counts and arrays
-pub record Ran (xs body : List ℕ) (vs : List ℤ) (allow : Allow) (budget : ℕ) (e : Executed) (g : List ℤ) (ro : List ℕ) (rv : List ℤ) (wo : List ℕ) (wv : List ℤ) : Type 0 where
-  pub run : run-of-arrays (e .counts) g ro rv wo wv ≡ after xs body vs allow budget
-  pub used : e .used ≡ operations-used xs body vs allow budget
+pub record Ran (xs body : List ℕ) (vs : List ℤ) (rest : Beside) (budget : ℕ) (e : Executed) (g : List ℤ) (ro : List ℕ) (rv : List ℤ) (wo : List ℕ) (wv : List ℤ) : Type 0 where
+  pub run : run-of-arrays (e .counts) g ro rv wo wv ≡ after xs body vs rest budget
+  pub used : e .used ≡ operations-used xs body vs rest budget
 
 -- ---- counts and the run that they stand for
 
@@ -92,21 +88,21 @@ going-on b i (suc o) e = absurd (true≢false e)
 pub row-bytes : (m : ℕ) (r : Row) → m < 2 ^ 64 → RowFits m r → (xs : List ℕ) → xs ≡ uncells (row m .enc r) → length xs ≡ entry-at m * 8
 row-bytes m r h f xs e = ap length e ∙ length-uncells (row m .enc r) ∙ ap (λ (n : ℕ). n * 8) (row-length m r f h)
 
-module _ {xs body : List ℕ} {vs : List ℤ} {allow : Allow} {budget : ℕ} (r : Ready xs body vs allow budget) where
+module _ {xs body : List ℕ} {vs : List ℤ} {rest : Beside} {budget : ℕ} (r : Ready xs body vs rest budget) where
   abbrev T : Table
-  T = table-of vs allow
+  T = table-of vs rest
 
   abbrev b : List Operation
   b = operations body
 
   abbrev q : Run
-  q = after xs body vs allow budget
+  q = after xs body vs rest budget
 
   pub some-body : 0 < length body
   some-body = let f = formed capacity (object-count vs) body (r .formed) in omega (arith, f .whole)
 
   -- a turn's table, by whether the transaction is finished then
-  overlaid : (o : Bool) → ended b q ≡ o → (ws : List ℤ) → table-of ws allow ≡ cond o (over (q .writes) T) T → table-of ws allow ≡ cond (ended b q) (over (q .writes) T) T
+  overlaid : (o : Bool) → ended b q ≡ o → (ws : List ℤ) → table-of ws rest ≡ cond o (over (q .writes) T) T → table-of ws rest ≡ cond (ended b q) (over (q .writes) T) T
   overlaid o f ws e = e ∙ ap (λ (x : Bool). cond x (over (q .writes) T) T) (sym f)
 
   -- ---- a finished transaction: its row stays as it is, and its writes go over the table
@@ -118,7 +114,7 @@ module _ {xs body : List ℕ} {vs : List ℤ} {allow : Allow} {budget : ℕ} (r 
     pub idle-sound : every (sound (object-count vs)) (before xs .writes) ≡ true
     idle-sound = ap (λ (p : Run). every (sound (object-count vs)) (p .writes)) (sym same) ∙ r .sound
 
-    pub idle : (ws : List ℤ) → table-of ws allow ≡ over (before xs .writes) T → Leaves xs body vs allow budget (record { used = 0; finished = true }) xs ws
+    pub idle : (ws : List ℤ) → table-of ws rest ≡ over (before xs .writes) T → Leaves xs body vs rest budget (record { used = 0; finished = true }) xs ws
     idle ws e =
         let f = ap (ended b) same ∙ done in
         record {
@@ -140,12 +136,12 @@ module _ {xs body : List ℕ} {vs : List ℤ} {allow : Allow} {budget : ℕ} (r 
     unstopped e = going-on b (t .counter) (t .outcome) (ap (ended b) (k .run) ∙ e)
 
     pub ran : {e : Executed} {g′ : List ℤ} {ro′ : List ℕ} {rv′ : List ℤ} {wo′ : List ℕ} {wv′ : List ℤ}
-        → Executes T b budget (run-of-arrays t g ro rv wo wv) (run-of-arrays (e .counts) g′ ro′ rv′ wo′ wv′) (e .used) → Ran xs body vs allow budget e g′ ro′ rv′ wo′ wv′
+        → Executes T b budget (run-of-arrays t g ro rv wo wv) (run-of-arrays (e .counts) g′ ro′ rv′ wo′ wv′) (e .used) → Ran xs body vs rest budget e g′ ro′ rv′ wo′ wv′
     ran x = record { run = x .run ∙ ap (steps T b budget) (k .run); used = x .count ∙ ap (counted T b budget) (k .run) }
 
   -- ---- carried on to e in these arrays,
 
-  module _ {e : Executed} {g : List ℤ} {ro : List ℕ} {rv : List ℤ} {wo : List ℕ} {wv : List ℤ} (k : Ran xs body vs allow budget e g ro rv wo wv) where
+  module _ {e : Executed} {g : List ℤ} {ro : List ℕ} {rv : List ℤ} {wo : List ℕ} {wv : List ℤ} (k : Ran xs body vs rest budget e g ro rv wo wv) where
     numbers : (e .counts .reads ≡ length (q .reads)) × (e .counts .writes ≡ length (q .writes)) × (e .counts .counter ≡ q .counter)
     numbers = counts-of (e .counts) g ro rv wo wv q (k .run)
 
@@ -167,7 +163,7 @@ module _ {xs body : List ℕ} {vs : List ℤ} {allow : Allow} {budget : ℕ} (r 
       ends : ended b q ≡ o
       ends = ap (ended b) (sym (k .run)) ∙ sym end
 
-      pub leaves : (ws : List ℤ) → table-of ws allow ≡ cond o (over (entries (e .counts .writes) wo wv) T) T → Leaves xs body vs allow budget (record { used = e .used; finished = o }) ys ws
+      pub leaves : (ws : List ℤ) → table-of ws rest ≡ cond o (over (entries (e .counts .writes) wo wv) T) T → Leaves xs body vs rest budget (record { used = e .used; finished = o }) ys ws
       leaves ws f =
           record {
             used = k .used;

@@ -1,4 +1,4 @@
--- A turn on the record area: its row is a part of it, and the bounds stand in it too. Assumes nothing.
+-- A turn on the record area: its row is a part of it, and stamps and bounds stand in it too. Assumes nothing.
 use mathlib.Core.Path.{_≡_}
 use mathlib.Core.List.{List}
 use Prim.Native.Nat.{ℕ, _-_, _≤_}
@@ -6,11 +6,11 @@ use lib.IntN.{ℤ}
 use lib.ListN.{length}
 use borrow.Rule.Slice.PartMut.{midOf, putMid}
 use Rattle.cells.specs.Cells.{cells}
-use Rattle.execution.specs.declared.BoundsAt.{BoundsAt}
-use Rattle.execution.specs.Run.{object-count}
-use Rattle.execution.specs.LentTable.{lent-allowed, BoundsWithin}
+use Rattle.execution.specs.declared.ObjectsAt.{ObjectsAt}
+use Rattle.execution.specs.Run.{Beside, object-count}
+use Rattle.execution.specs.LentTable.{lent-beside, BoundsWithin}
 use Rattle.speculative_turn.specs.declared.Advanced.{Advanced}
-use Rattle.speculative_turn.specs.Advance.{Allow, Ready, Leaves}
+use Rattle.speculative_turn.specs.Advance.{Ready, Leaves}
 
 -- the row from byte `row` to byte `next`, and the area with another in its place
 abbrev pub area-row : List ℕ → ℕ → ℕ → List ℕ
@@ -19,19 +19,19 @@ area-row records row next = midOf row (next - row) records
 abbrev pub with-row : List ℕ → ℕ → ℕ → List ℕ → List ℕ
 with-row records row next ys = putMid row (next - row) records ys
 
--- what each object of a table may take, by the bounds in the area
-abbrev pub allow-in : List ℕ → BoundsAt → List ℤ → Allow
-allow-in records bounds vs = lent-allowed (object-count vs) bounds (cells records)
+-- what stands in the area beside the values of a table
+abbrev pub beside-in : List ℕ → ObjectsAt → List ℤ → Beside
+beside-in records objects vs = lent-beside (object-count vs) objects (cells records)
 
 -- the row and every object's bounds lie in the area, and the row is ready for a turn
-pub record ReadyAt (records : List ℕ) (bounds : BoundsAt) (row next : ℕ) (body : List ℕ) (vs : List ℤ) (budget : ℕ) : Type 0 where
+pub record ReadyAt (records : List ℕ) (objects : ObjectsAt) (row next : ℕ) (body : List ℕ) (vs : List ℤ) (budget : ℕ) : Type 0 where
   pub order : row ≤ next
   pub inside : next ≤ length records
-  pub bounded : BoundsWithin bounds (object-count vs) (length records)
-  pub ready : Ready (area-row records row next) body vs (allow-in records bounds vs) budget
+  pub bounded : BoundsWithin objects (object-count vs) (length records)
+  pub ready : Ready (area-row records row next) body vs (beside-in records objects vs) budget
 
 -- what a turn leaves: the area with a new row in its place, and the table
-pub record LeavesAt (records : List ℕ) (bounds : BoundsAt) (row next : ℕ) (body : List ℕ) (vs : List ℤ) (budget : ℕ) (a : Advanced) (left : List ℕ) (ws : List ℤ) : Type 0 where
+pub record LeavesAt (records : List ℕ) (objects : ObjectsAt) (row next : ℕ) (body : List ℕ) (vs : List ℤ) (budget : ℕ) (a : Advanced) (left : List ℕ) (ws : List ℤ) : Type 0 where
   pub new-row : List ℕ
-  pub leaves : Leaves (area-row records row next) body vs (allow-in records bounds vs) budget a new-row ws
+  pub leaves : Leaves (area-row records row next) body vs (beside-in records objects vs) budget a new-row ws
   pub back : left ≡ with-row records row next new-row

@@ -1,6 +1,6 @@
 // One pending transaction's turn of work, on its row: a finished one lays its writes over the table of those behind it, any other's run is resumed.
-// The row and the bounds stand in one area: the row is loaded, run in local arrays while the area is only read, and stored.
-use execution::BoundsAt;
+// The row and what stands beside the table's values are in one area: the row is loaded, run in local arrays while the area is only read, and stored.
+use execution::ObjectsAt;
 ghost use mathlib.Core.Path.{_≡_};
 ghost use mathlib.Core.Bool.{false};
 ghost use Prim.Native.Nat.{_<_};
@@ -22,16 +22,16 @@ pub struct Advanced {
 // its writes go over the table.
 fn resume(
     records: &mut [u8],
-    bounds: BoundsAt,
+    objects: ObjectsAt,
     row: usize,
     next: usize,
     body: &[u8],
     table: &mut [i64],
     budget: usize,
 ) -> Advanced
-    requires { ⌜ ReadyAt (now records) bounds row next (now body) (now table) budget ⌝ }
+    requires { ⌜ ReadyAt (now records) objects row next (now body) (now table) budget ⌝ }
     requires { ⌜ ended (operations (now body)) (before (area-row (now records) row next)) ≡ false ⌝ }
-    ensures { λ a. ⌜ LeavesAt (now (records .entry)) bounds row next (now (body .entry)) (now (table .entry)) budget
+    ensures { λ a. ⌜ LeavesAt (now (records .entry)) objects row next (now (body .entry)) (now (table .entry)) budget
         a (now (records .exit)) (now (table .exit)) ⌝ }
 {
     let mut registers: [i64; 4] = [0; 4];
@@ -50,7 +50,7 @@ fn resume(
     let e = execution_interpreter::execute(
         table,
         records,
-        bounds,
+        objects,
         body,
         &mut registers,
         &mut ro,
@@ -89,15 +89,15 @@ fn is_finished(row: &[u8], body: &[u8]) -> bool
 // the table as they stand in its row.
 pub fn advance(
     records: &mut [u8],
-    bounds: BoundsAt,
+    objects: ObjectsAt,
     row: usize,
     next: usize,
     body: &[u8],
     table: &mut [i64],
     budget: usize,
 ) -> Advanced
-    requires { ⌜ ReadyAt (now records) bounds row next (now body) (now table) budget ⌝ }
-    ensures { λ a. ⌜ LeavesAt (now (records .entry)) bounds row next (now (body .entry)) (now (table .entry)) budget
+    requires { ⌜ ReadyAt (now records) objects row next (now body) (now table) budget ⌝ }
+    ensures { λ a. ⌜ LeavesAt (now (records .entry)) objects row next (now (body .entry)) (now (table .entry)) budget
         a (now (records .exit)) (now (table .exit)) ⌝ }
 {
     if is_finished(&records[row..next], body) {
@@ -107,5 +107,5 @@ pub fn advance(
             finished: true,
         };
     }
-    resume(records, bounds, row, next, body, table, budget)
+    resume(records, objects, row, next, body, table, budget)
 }

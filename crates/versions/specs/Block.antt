@@ -20,6 +20,7 @@ use Rattle.model.specs.Serial.{Version}
 use Rattle.model.specs.Replica.{opens}
 use Rattle.model.specs.Shape.{versions-inside}
 use Rattle.model.specs.ShapeCheck.{versions-shaped}
+use Rattle.versions.specs.declared.Seen.{Seen}
 
 -- ---- what the cells say
 
@@ -131,6 +132,10 @@ trim rc upper [] = []
 trim rc upper (v ∷ vs) = cond (between rc (v .stamp) upper) (v ∷ trim rc (v .stamp) vs) (trim rc (v .stamp) vs)
 
 -- ---- what contracts say
+
+-- what a lookup yields
+abbrev pub version-seen : Seen → Version
+version-seen x = record { stamp = x .stamp; value = x .value }
 
 -- the areas lent: the readers' cells and one block
 pub record Lent (n : ℕ) (rs bs : List ℕ) : Type 0 where

@@ -6,15 +6,13 @@ use Prim.Native.Nat.{ℕ, zero, suc, _+_, _*_, _-_, _≤_, _<_}
 use native.Mathlib.Omega.{arith}
 use native.Mathlib.Numerals.{add-one}
 use lib.Dec.{leb, ltb}
-use lib.IntN.{pos}
 use lib.ListN.{length, getD, drop, take}
 use lib.Seq.{drop-drop, getD-drop, slice}
-use mir.Syntax.{w64}
-use mir.Val.{toZ}
 use borrow.Author.Tests.{lt-ltb, le-ltb, le-leb, lt-leb, leb-false}
 use Rattle.cells.specs.Cells.{cells}
 use Rattle.cells.specs.CellLaws.{cells-next, cells-end, cells-rest, cells-take, cells-drop}
 use Rattle.cells.specs.Zeros.{zeros}
+use Rattle.model.specs.Start.{no-version}
 use Rattle.model.specs.Replica.{as-of}
 use Rattle.model.specs.ShapeCheck.{versions-shaped}
 use Rattle.versions.specs.Block.{width, object-cells, version-of, versions-in, block-versions, stamps, chunks, framed, block-ok, object-ok, blocks-ok, between, lowest, chain, chained}
@@ -56,17 +54,17 @@ versions-step (suc n) k cs h =
 -- ---- lookup
 
 module _ (n k r : ℕ) (cs : List ℕ) (s : ℕ) (g : s ≡ getD cs k 0) (h : 0 < n) where
-  pub look-here : s ≤ r → as-of r (versions-in n (drop k cs)) .value ≡ toZ w64 (getD cs (k + 1) 0)
+  pub look-here : s ≤ r → as-of r (versions-in n (drop k cs)) ≡ version-of s (getD cs (k + 1) 0)
   look-here l = rw (versions-step n k cs h, ← g, le-leb s r l)
 
-  pub look-on : r < s → as-of r (versions-in n (drop k cs)) .value ≡ as-of r (versions-in (n - 1) (drop (k + 2) cs)) .value
+  pub look-on : r < s → as-of r (versions-in n (drop k cs)) ≡ as-of r (versions-in (n - 1) (drop (k + 2) cs))
   look-on l = rw (versions-step n k cs h, ← g, lt-leb s r l)
 
-pub look-start : (cs : List ℕ) (r k : ℕ) → k ≡ getD cs 0 0 → as-of r (block-versions cs) .value ≡ as-of r (versions-in k (drop 1 cs)) .value
+pub look-start : (cs : List ℕ) (r k : ℕ) → k ≡ getD cs 0 0 → as-of r (block-versions cs) ≡ as-of r (versions-in k (drop 1 cs))
 unfolding block-versions
 look-start cs r k e = rw e
 
-pub look-end : (n r : ℕ) (cs : List ℕ) → n ≤ 0 → as-of r (versions-in n cs) .value ≡ pos 0
+pub look-end : (n r : ℕ) (cs : List ℕ) → n ≤ 0 → as-of r (versions-in n cs) ≡ no-version
 unfolding versions-in
 look-end zero r cs h = refl
 look-end (suc n) r cs h = absurd (omega arith)

@@ -4,19 +4,24 @@ use mathlib.Core.Bool.{true}
 use mathlib.Core.List.{List, [], _∷_, _++_}
 use Prim.Native.Nat.{ℕ, zero, suc, _+_, _*_, _-_, _^_, _≤_, _<_}
 use native.Mathlib.Omega.{arith}
+use lib.Signed.{mag}
 use lib.Dec.{leb}
 use lib.ListN.{length, getD, take, drop, replicate, length-append, length-replicate, length-drop, take-append-drop}
 use lib.Seq.{drop-at, drop-drop}
 use mir.Syntax.{w64}
-use mir.Val.{Fits}
+use mir.Val.{Fits, SFits}
 use mir.ValLaws.{toZ-fits}
 use mir.Facts.{toZ-ofZ, ofZ-toZ, fits-ofZ}
 use borrow.Author.Tests.{le-leb, leb-true}
+use borrow.Rule.Slice.PartMut.{midOf}
 use Rattle.execution.specs.ReadAgreement.{both}
 use Rattle.cells.specs.Cells.{cells, uncells, Below}
-use Rattle.cells.specs.CellLaws.{below-drop, below-zeros, cells-uncells}
+use Rattle.cells.specs.CellLaws.{below-drop, below-zeros, cells-below, cells-uncells}
 use Rattle.cells.specs.Zeros.{zeros, zeros-replicate, zeros-true}
 use Rattle.model.specs.Serial.{Version}
+use Rattle.model.specs.Replica.{as-of}
+use Rattle.model.specs.ListLaws.{All}
+use Rattle.model.specs.VersionLaws.{as-of-one}
 use Rattle.model.specs.Shape.{VersionsShape}
 use Rattle.model.specs.ShapeCheck.{versions-shaped, versions-say}
 use Rattle.versions.specs.Block.{width, versions-in, stamps, block-versions, flat, block, Small, framed, block-ok}
@@ -66,6 +71,23 @@ small-versions (suc k) cs h = (toZ-fits _ (getD cs 1 0) (fit (h 1)), h 0, small-
 pub small-block-versions : (bc : List ℕ) → Below (2 ^ 64) bc → Small (block-versions bc)
 unfolding block-versions
 small-block-versions bc h = small-versions (getD bc 0 0) (drop 1 bc) (below-drop (2 ^ 64) 1 bc h)
+
+below-take : (n k : ℕ) (xs : List ℕ) → 0 < n → Below n xs → Below n (take k xs)
+below-take n zero xs p h i = p
+below-take n (suc k) [] p h i = p
+below-take n (suc k) (x ∷ xs) p h zero = h 0
+below-take n (suc k) (x ∷ xs) p h (suc i) = below-take n k xs p (λ j. h (suc j)) i
+
+-- what is seen in a block that is lent, as k bytes from byte f on, is a value of 64 bits
+pub seen-fits : (t f k : ℕ) (b : List ℕ) → Below 256 b → mag (as-of t (block-versions (cells (midOf f k b))) .value) < 2 ^ 63
+seen-fits t f k b h =
+    let vs = block-versions (cells (midOf f k b)) in
+    as-of-one (λ (v : Version). SFits w64 (v .value)) t vs (record { sfits = omega arith })
+    (values-fit vs (small-block-versions (cells (midOf f k b)) (cells-below (midOf f k b) (below-take 256 k (drop f b) (omega arith) (below-drop 256 f b h))))) .sfits
+  where
+    values-fit : (vs : List Version) → Small vs → All (λ (v : Version). SFits w64 (v .value)) vs
+    values-fit [] g = tt
+    values-fit (v ∷ vs) g = (g .0, values-fit vs (g .2))
 
 versions-flat : (vs : List Version) (ts : List ℕ) → Small vs → versions-in (length vs) (flat vs ++ ts) ≡ vs
 unfolding versions-in flat

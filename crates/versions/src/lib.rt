@@ -8,7 +8,7 @@ ghost use lib.Dec.{ltb, leb};
 ghost use lib.ListN.{length, getD};
 ghost use Rattle.cells.specs.Cells.{cells};
 ghost use Rattle.model.specs.Replica.{as-of};
-ghost use Rattle.versions.specs.Block.{width as block-width, object-cells as cells-of-object, block-versions, between};
+ghost use Rattle.versions.specs.Block.{width as block-width, object-cells as cells-of-object, block-versions, between, version-seen};
 
 // The cells of a block: a count, and a stamp and a value for one version more than there are readers.
 pub fn width(readers: usize) -> usize
@@ -48,20 +48,30 @@ pub fn some_between(snapshots: &[u8], readers: usize, s: u64, upper: u64) -> boo
     false
 }
 
-// What a reader of this stamp sees: the value of the newest version whose stamp is not above it. Goes from the newest version down, k being
-// the cell of the next one's stamp; 0 where all are above, which no block that passed the shape check has.
-pub fn lookup(block: &[u8], stamp: u64) -> i64
+// A version as it is seen.
+pub struct Seen {
+    pub stamp: u64,
+    pub value: i64,
+}
+
+// What a reader of this stamp sees: the newest version whose stamp is not above it. Goes from the newest version down, k being the cell of the next
+// one's stamp; zeros where all are above, which no block that passed the shape check has.
+pub fn lookup(block: &[u8], stamp: u64) -> Seen
     requires { ⌜ (1 + 2 * getD (cells (now block)) 0 0) * 8 ≤ length (now block) ⌝ }
-    ensures { λ r. ⌜ r ≡ as-of stamp (block-versions (cells (now (block .entry)))) .value ⌝ }
+    ensures { λ r. ⌜ version-seen r ≡ as-of stamp (block-versions (cells (now (block .entry)))) ⌝ }
 {
     let mut left = cells::get(block, 0) as usize;
     let mut k = 1;
     while 0 < left {
-        if cells::get(block, k) <= stamp {
-            return cells::get_signed(block, k + 1);
+        let s = cells::get(block, k);
+        if s <= stamp {
+            return Seen {
+                stamp: s,
+                value: cells::get_signed(block, k + 1),
+            };
         }
         k += 2;
         left -= 1;
     }
-    0
+    Seen { stamp: 0, value: 0 }
 }

@@ -76,12 +76,14 @@ pub struct Committed {
     pub stored: u32,
 }
 
-/// What [`read`](crate::Replica::read) sees.
+/// The version that [`read`](crate::Replica::read) sees.
 #[derive(Clone, Copy, PartialEq, Eq, Debug)]
 #[non_exhaustive]
 pub struct Reading {
     /// The object's value at the reader's stamp.
     pub value: i64,
+    /// The stamp of the commit that stored it; of an object untouched since the opening, the start stamp.
+    pub stamp: u32,
 }
 
 /// Where [`find`](crate::Replica::find) found a pending job.

@@ -17,7 +17,9 @@
 //! let committed = replica.deliver_final((1, 1))?;
 //! assert_eq!((committed.outcome, committed.kept, committed.stamp), (Outcome::Done, true, 1));
 //! replica.open_reader(1)?;
-//! assert_eq!((replica.read(0, 0)?.value, replica.read(1, 0)?.value), (10, 15));
+//! let (before, after) = (replica.read(0, 0)?, replica.read(1, 0)?);
+//! assert_eq!((before.value, before.stamp), (10, 0));
+//! assert_eq!((after.value, after.stamp), (15, 1));
 //!
 //! let again = replica.deliver_final((1, 1)).unwrap_err();
 //! assert_eq!((again, again.number()), (Refusal::Spent, 4));

@@ -30,6 +30,7 @@ pub struct Committed {
 pub struct Value {
     pub number: u32,
     pub value: i64,
+    pub stamp: u32,
 }
 
 #[repr(C)]

@@ -111,7 +111,7 @@ impl<A: AsRef<[u8]>> Replica<A> {
         Replica { record: self.record().to_vec(), bodies: self.bodies().to_vec() }
     }
 
-    /// The object's newest value that is not above the reader's stamp.
+    /// The object's newest version that is not above the reader's stamp: its value, and the stamp of its commit.
     ///
     /// # Errors
     ///
@@ -119,9 +119,9 @@ impl<A: AsRef<[u8]>> Replica<A> {
     pub fn read(&self, reader: u32, object: u32) -> Result<Reading, Refusal> {
         let (record, bodies) = (self.record(), self.bodies());
         // SAFETY: both slices are valid for their lengths, and the call writes nothing.
-        let raw::Value { number, value } =
+        let raw::Value { number, value, stamp } =
             unsafe { raw::jobstore_read(record.as_ptr(), record.len(), bodies.as_ptr(), bodies.len(), reader, object) };
-        judged(number, Reading { value })
+        judged(number, Reading { value, stamp })
     }
 
     /// Where a pending key stands in the optimistic order, and how long its body is.

@@ -1,4 +1,4 @@
-//! The ten cases of "A small depot", bounds, and each refusal.
+//! The ten cases of "A small depot", bounds, stamps beside values, and each refusal.
 
 use jobstore::{Body, Bounds, Committed, Executed, Found, Outcome, Refusal, Replica, BODIES_LENGTH, RECORD_LENGTH};
 
@@ -26,6 +26,11 @@ fn table(replica: &Replica, n: u32) -> Result<Vec<i64>, Refusal> {
     let mut copy = replica.copy();
     copy.open_reader(6)?;
     (0..n).map(|object| Ok(copy.read(6, object)?.value)).collect()
+}
+
+/// An object as the reader sees it: its value and its stamp.
+fn seen(replica: &Replica, reader: u32, object: u32) -> Result<(i64, u32), Refusal> {
+    replica.read(reader, object).map(|reading| (reading.value, reading.stamp))
 }
 
 fn executed(yielded: Executed) -> (u32, u32) {
@@ -239,6 +244,44 @@ fn refused_bounds() -> Result<(), Refusal> {
     assert_eq!(open(&[0, 21], &[50, 50]), Some(Refusal::Bounds));
     assert_eq!(open(&[0, 0], &[19, 50]), Some(Refusal::Bounds));
     assert_eq!(open(&[0, 30], &[50, 10]), Some(Refusal::Bounds));
+    Ok(())
+}
+
+/// Delivered early and finally at once; the stamp that it took.
+fn commit(replica: &mut Replica, key: (u32, u32), body: Body) -> Result<u32, Refusal> {
+    replica.deliver_early(key, body)?;
+    Ok(replica.deliver_final(key)?.stamp)
+}
+
+/// The reader's own stamp is 10, which no version has: the job that took it failed.
+#[test]
+fn a_value_has_the_stamp_of_its_commit_or_of_the_start() -> Result<(), Refusal> {
+    let mut replica = Replica::opened(&[10, 20, 30], 7)?;
+    assert_eq!(commit(&mut replica, (1, 1), add_5())?, 8);
+    assert_eq!(commit(&mut replica, (3, 1), Body::new().load(0, 0).store(0, 1))?, 9);
+    assert_eq!(commit(&mut replica, (4, 1), Body::new().store(0, 2).fail())?, 10);
+    replica.open_reader(0)?;
+    assert_eq!(seen(&replica, 0, 0)?, (15, 8));
+    assert_eq!(seen(&replica, 0, 1)?, (15, 9));
+    assert_eq!(seen(&replica, 0, 2)?, (30, 7));
+    Ok(())
+}
+
+/// Of the last two commits, which store the same value, each gives a stamp of its own.
+#[test]
+fn a_reader_goes_on_with_the_stamps_of_its_opening() -> Result<(), Refusal> {
+    let mut replica = Replica::opened(&[10, 20, 30], 7)?;
+    replica.open_reader(0)?;
+    assert_eq!(commit(&mut replica, (1, 1), add_5())?, 8);
+    replica.open_reader(1)?;
+    assert_eq!(commit(&mut replica, (1, 2), Body::new().load(0, 0).store(0, 0))?, 9);
+    replica.open_reader(2)?;
+    for (reader, due) in [(0, (10, 7)), (1, (15, 8)), (2, (15, 9))] {
+        assert_eq!(seen(&replica, reader, 0)?, due);
+        assert_eq!(seen(&replica, reader, 1)?, (20, 7));
+    }
+    replica.close_reader(1)?;
+    assert_eq!((seen(&replica, 0, 0)?, seen(&replica, 2, 0)?), ((10, 7), (15, 9)));
     Ok(())
 }
 

@@ -35,6 +35,27 @@ fn refusals() {
     }
 }
 
+/// A field of a C struct, as `raw.rs` has it.
+fn field(line: &str) -> String {
+    let (declared, _) = line.split_once(';').unwrap();
+    match declared.trim().split_once(' ') {
+        Some(("uint32_t", name)) => format!("    pub {name}: u32,\n"),
+        Some(("int64_t", name)) => format!("    pub {name}: i64,\n"),
+        _ => panic!("{declared} is of another type"),
+    }
+}
+
+/// The same fields in the same order.
+#[test]
+fn answers() {
+    let raw = include_str!("../src/raw.rs");
+    for name in ["Executed", "Committed", "Value", "Found", "Part"] {
+        let fields = between(&format!("struct jobstore_{} {{\n", name.to_lowercase()), "};").lines().map(field);
+        let answer = format!("pub struct {name} {{\n{}}}", fields.collect::<String>());
+        assert!(raw.contains(&answer), "the header has {answer}");
+    }
+}
+
 #[test]
 fn no_other_number_is_a_refusal() {
     for number in [0, Refusal::ALL.len() as u32 + 1, u32::MAX] {

@@ -285,6 +285,10 @@ fn a_store_is_handed_over_by_values() -> Result<(), Refusal> {
     let stamp = last(&mut before, (2, 1), &copy(0, 1))?.stamp;
     let mut after = Replica::opened(&table(&before), stamp)?;
     assert_eq!(table(&after), table(&before));
+    after.open_reader(0)?;
+    for object in 0..OBJECTS {
+        assert_eq!(after.read(0, object)?.stamp, stamp);
+    }
     assert_eq!(last(&mut after, (1, 2), &add(0, 5))?.stamp, stamp + 1);
     assert_eq!(before.deliver_early((2, 1), copy(0, 1)), Err(Refusal::Spent));
     assert_eq!(after.deliver_early((2, 1), copy(0, 1)), Ok(()));

@@ -11,7 +11,7 @@ use crate::limits::{CLIENTS, STANDARD};
 use crate::openings::Objects;
 use crate::random::Random;
 use crate::serial::Serial;
-use jobstore::{raw, Bounds, Committed, Key, Refusal, Replica};
+use jobstore::{raw, Bounds, Committed, Key, Reading, Refusal, Replica};
 
 #[derive(Clone)]
 struct Job {
@@ -151,7 +151,7 @@ pub fn compare_replicas(seed: u64, coverage: &mut Coverage) -> Result<(), Differ
             same("readers' answers", readers[site], readers[0])?;
         }
         count_delivery(coverage, &committed);
-        compare_readings(coverage, &mut random, &sites, plan.opening.values.len())?;
+        compare_readings(coverage, &mut random, &sites, &serial)?;
         // No stamp is left: what is pending stays so, and from here on places may run out at one replica alone.
         if plain.number == 9 {
             break;
@@ -173,20 +173,22 @@ fn count_delivery(coverage: &mut Coverage, results: &[Delivery]) {
     });
 }
 
-/// Every reader's view of a few objects.
+/// Every reader's view of an object, value and stamp.
 fn compare_readings(
     coverage: &mut Coverage,
     random: &mut Random,
     sites: &[Site; SITES],
-    n: usize,
+    serial: &Serial,
 ) -> Result<(), Difference> {
     for reader in 0..STANDARD.readers as u32 {
-        let object = random.below(n) as u32;
-        let reading = sites[0].replica.read(reader, object);
+        let object = random.below(serial.objects.len());
+        let reading = sites[0].replica.read(reader, object as u32);
         for site in sites {
-            same("reading", site.replica.read(reader, object), reading)?;
+            same("reading", site.replica.read(reader, object as u32), reading)?;
         }
         coverage.count_if(reading.is_ok(), "readings agree");
+        let older = |seen: Reading| seen.stamp < serial.objects[object].timestamp;
+        coverage.count_if(reading.is_ok_and(older), "readings agree, on an older version than the newest");
     }
     Ok(())
 }
@@ -238,6 +240,7 @@ pub fn required() -> Vec<String> {
         "different work",
         "nothing pending, all bytes equal",
         "readings agree",
+        "readings agree, on an older version than the newest",
         "some keep, others run again",
         "something pending, equal committed tables",
     ];

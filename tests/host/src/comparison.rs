@@ -20,6 +20,8 @@ pub struct Comparison {
     pub independent: Independent,
     /// Consulted from the first accepted opening on: it is fed arguments only.
     pub serial: Serial,
+    /// The start stamp of the last accepted opening.
+    pub start: Option<u32>,
     pub coverage: Coverage,
 }
 
@@ -40,7 +42,8 @@ impl Comparison {
         let limits = STANDARD;
         let mut independent = Independent::new(limits);
         independent.state = parse(limits, &library.record, &library.bodies).ok();
-        Comparison { limits, library, independent, serial: Serial::new(limits), coverage: Coverage::default() }
+        let (serial, coverage) = (Serial::new(limits), Coverage::default());
+        Comparison { limits, library, independent, serial, start: None, coverage }
     }
 
     /// One call on all of them; its answer, if nothing differs.
@@ -59,7 +62,11 @@ impl Comparison {
             self.compare_part(*client, *sequence)?;
         }
         self.compare_areas(&before)?;
-        observe(&mut self.coverage, self.limits, call, &answer, state_before.as_ref(), self.independent.state.as_ref());
+        if let (Call::Open(opening), Answer::Number(0)) = (call, &answer) {
+            self.start = Some(opening.stamp);
+        }
+        let (before, after) = (state_before.as_ref(), self.independent.state.as_ref());
+        observe(&mut self.coverage, self.limits, self.start, call, &answer, before, after);
         Ok(answer)
     }
 

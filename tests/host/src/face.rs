@@ -69,8 +69,8 @@ impl Calls for Face {
 
     fn read(&self, reader: u32, object: u32) -> Value {
         match self.replica.read(reader, object) {
-            Ok(reading) => Value { number: 0, value: reading.value },
-            Err(refusal) => Value { number: refusal.number(), value: 0 },
+            Ok(reading) => Value { number: 0, value: reading.value, stamp: reading.stamp },
+            Err(refusal) => Value { number: refusal.number(), value: 0, stamp: 0 },
         }
     }
 

@@ -365,14 +365,15 @@ impl Calls for Independent {
     }
 
     fn read(&self, reader: u32, object: u32) -> Value {
-        let refused = |number| Value { number, value: 0 };
+        let refused = |number| Value { number, value: 0, stamp: 0 };
         let Some(state) = &self.state else { return refused(1) };
         match (state.readers.get(reader as usize), state.objects.get(object as usize)) {
             (None, _) => refused(10),
             (Some(None), _) => refused(12),
             (_, None) => refused(13),
             (Some(Some(timestamp)), Some(versions)) => {
-                Value { number: 0, value: versions[newest(versions, *timestamp).unwrap()].value }
+                let Version { timestamp: stamp, value } = versions[newest(versions, *timestamp).unwrap()];
+                Value { number: 0, value, stamp }
             }
         }
     }

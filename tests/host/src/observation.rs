@@ -3,7 +3,7 @@
 use crate::body::{decode, Operation, FLAWS, LARGEST_DIVISOR};
 use crate::calls::{Answer, Call, Opening};
 use crate::coverage::Coverage;
-use crate::independent::{overlay, Bounds, State, Transaction};
+use crate::independent::{overlay, Bounds, State, Transaction, Version};
 use crate::limits::{Limits, LARGEST_BUDGET};
 use jobstore::raw::{Committed, Executed};
 
@@ -13,6 +13,7 @@ pub const FIRST_RUN_AGAIN: &str = "final: run again, finished and first in the o
 pub fn observe(
     coverage: &mut Coverage,
     limits: Limits,
+    start: Option<u32>,
     call: &Call,
     answer: &Answer,
     before: Option<&State>,
@@ -43,6 +44,10 @@ pub fn observe(
         (Call::Final { .. }, Answer::Committed(committed), Some(before), Some(after)) if committed.number == 0 => {
             let Call::Final { client, sequence } = call else { unreachable!() };
             commit(coverage, committed, before.place(*client, *sequence).unwrap(), before, after);
+        }
+        (Call::Read { reader, object }, Answer::Value(seen), Some(before), _) if seen.number == 0 => {
+            let taken = before.readers[*reader as usize].unwrap();
+            read(coverage, seen.stamp, taken, &before.objects[*object as usize], start);
         }
         _ => {}
     }
@@ -209,6 +214,14 @@ fn walk(coverage: &mut Coverage, stored: u32, before: &State, after: &State) {
     coverage.count_if(unharmed, "walk: all begun ones stay though objects were stored");
 }
 
+/// Where the stamp beside a value is told from the newest version's, and from the reader's own, `taken`.
+fn read(coverage: &mut Coverage, stamp: u32, taken: u32, versions: &[Version], start: Option<u32>) {
+    let newest = versions.last().unwrap().timestamp;
+    coverage.count_if(stamp < newest, "read: an older version than the newest");
+    let untouched = start == Some(newest);
+    coverage.count_if(untouched && 0 < stamp && stamp < taken, "read: an untouched object, at a start stamp above 0");
+}
+
 /// What each call may answer, refusal 1 of an opening aside: only damaged areas lead to it.
 const NUMBERS: &[(&str, &[u32])] = &[
     ("open", &[0, 2, 15]),
@@ -320,6 +333,8 @@ const EVENTS: &[&str] = &[
     "walk: one restarts only for one before it",
     "walk: several restart",
     "walk: some stay and the rest restart",
+    "read: an older version than the newest",
+    "read: an untouched object, at a start stamp above 0",
     "begun transactions that restarted",
     "versions that a commit let go",
     "versions that a close let go",

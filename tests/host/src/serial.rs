@@ -157,11 +157,11 @@ impl Calls for Serial {
     }
 
     fn read(&self, reader: u32, object: u32) -> Value {
-        let refused = |number| Value { number, value: 0 };
+        let refused = |number| Value { number, value: 0, stamp: 0 };
         let Some(reader) = self.readers.get(reader as usize) else { return refused(10) };
         let Some(copy) = reader else { return refused(12) };
         let Some(object) = copy.get(object as usize) else { return refused(13) };
-        Value { number: 0, value: object.value }
+        Value { number: 0, value: object.value, stamp: object.timestamp }
     }
 
     fn close_reader(&mut self, reader: u32) -> u32 {

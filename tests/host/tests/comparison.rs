@@ -40,35 +40,37 @@ fn answers(all: &mut Comparison, call: Call, paper: Answer) {
     assert_eq!(all.apply(&call), Ok(paper), "{call:?}");
 }
 
-/// Final deliveries by client, each with kept or not, and the table that they leave.
-fn delivers(finals: [(u32, u32); 3], table: [i64; 3]) {
+/// Final deliveries by client, each with kept or not, and the table that they leave, values with their stamps.
+fn delivers(finals: [(u32, u32); 3], table: [(i64, u32); 3]) {
     let mut all = depot();
     for (stamp, (client, kept)) in (1..).zip(finals) {
         let committed = Committed { number: 0, outcome: 0, kept, stamp, stored: 1 };
         answers(&mut all, Call::Final { client, sequence: 1 }, Answer::Committed(committed));
     }
     answers(&mut all, Call::OpenReader { reader: 6 }, Answer::Number(0));
-    for (object, value) in (0..).zip(table) {
-        answers(&mut all, Call::Read { reader: 6, object }, Answer::Value(Value { number: 0, value }));
+    for (object, (value, stamp)) in (0..).zip(table) {
+        answers(&mut all, Call::Read { reader: 6, object }, Answer::Value(Value { number: 0, value, stamp }));
     }
 }
 
 #[test]
 fn the_small_depot_on_all_three() {
-    delivers([(1, 1), (2, 1), (3, 1)], [15, 15, 20]);
-    delivers([(3, 0), (1, 1), (2, 0)], [15, 10, 10]);
-    delivers([(2, 1), (1, 1), (3, 1)], [15, 15, 20]);
+    delivers([(1, 1), (2, 1), (3, 1)], [(15, 1), (15, 3), (20, 2)]);
+    delivers([(3, 0), (1, 1), (2, 0)], [(15, 2), (10, 1), (10, 3)]);
+    delivers([(2, 1), (1, 1), (3, 1)], [(15, 2), (15, 3), (20, 1)]);
 }
 
 /// Operations carried out, outcome and objects stored.
 type Run = [u32; 3];
 const DONE: Run = [6, 0, 2];
 const OUTSIDE: Run = [5, 3, 0];
+/// The start stamp, which a value keeps unless the run is done.
+const START: u32 = 40;
 
 /// A tank of 20 litres with bounds 0 and 50, and a gauge at 7. A job reads the tank, stores that at the gauge, and pours.
 fn pours(litres: i64, worked: bool, [operations, outcome, stored]: Run, table: [i64; 2]) {
     let mut all = Comparison::new(Library::new());
-    let widest = Opening::plain(&[20, 7], 0);
+    let widest = Opening::plain(&[20, 7], START);
     let opening = Opening { lower: vec![0, i64::MIN], upper: vec![50, i64::MAX], ..widest };
     answers(&mut all, Call::Open(opening), Answer::Number(0));
     let body = Body::new().load(0, 0).store(0, 1).set(1, litres).add(0, 1).store(0, 0).load(2, 1);
@@ -77,11 +79,12 @@ fn pours(litres: i64, worked: bool, [operations, outcome, stored]: Run, table: [
         let executed = Executed { number: 0, operations, finished: 1 };
         answers(&mut all, Call::Work { count: 100 }, Answer::Executed(executed));
     }
-    let committed = Committed { number: 0, outcome, kept: u32::from(worked), stamp: 1, stored };
+    let committed = Committed { number: 0, outcome, kept: u32::from(worked), stamp: START + 1, stored };
     answers(&mut all, Call::Final { client: 1, sequence: 1 }, Answer::Committed(committed));
     answers(&mut all, Call::OpenReader { reader: 0 }, Answer::Number(0));
+    let stamp = if outcome == 0 { START + 1 } else { START };
     for (object, value) in (0..).zip(table) {
-        answers(&mut all, Call::Read { reader: 0, object }, Answer::Value(Value { number: 0, value }));
+        answers(&mut all, Call::Read { reader: 0, object }, Answer::Value(Value { number: 0, value, stamp }));
     }
 }
 

@@ -27,7 +27,7 @@ returns c =
     let a = s .args in
     let p = s .pre in
     let f = c .before .before .before .before .find in (
-      λ allow. load-own (table-of (now (a .table)) allow) (a .c) (now (a .registers)) (now (a .ro)) (now (a .rv)) (now (a .wo)) (now (a .wv)) (a .r) (a .o) (f .result) (f .ensures) (c .assign .result) (c .assign .last .0) (c .before .before .before .if1 .taken) (c .assign .ensures .0) (rw (read-back (c .before .assign-arg2 .given)) at (c .assign .ensures .1)),
+      λ b. load-own (table-of (now (a .table)) b) (a .c) (now (a .registers)) (now (a .ro)) (now (a .rv)) (now (a .wo)) (now (a .wv)) (a .r) (a .o) (f .result) (f .ensures) (c .assign .result) (c .assign .last .0) (c .before .before .before .if1 .taken) (c .assign .ensures .0) (rw (read-back (c .before .assign-arg2 .given)) at (c .assign .ensures .1)),
       (bounded-advanced 0 (a .c) (c .assign .result) (c .assign .ensures .0) (p .0), p .4),
     )
 
@@ -50,7 +50,7 @@ returns-2 c =
     let p = s .pre in
     let f = c .before .before .before .before .before .before .before .find in
     let g = c .before .before .before .before .find2 in (
-      λ allow. load-read (table-of (now (a .table)) allow) (a .c) (now (a .registers)) (now (a .ro)) (now (a .rv)) (now (a .wo)) (now (a .wv)) (a .r) (a .o) (f .result) (f .ensures) (c .before .before .before .before .before .before .if1 .left) (g .result) (g .ensures) (c .assign2 .result) (c .assign2 .last .0) (c .before .before .before .if2 .taken) (c .assign2 .ensures .0) (rw (read-back (c .before .assign-arg4 .given)) at (c .assign2 .ensures .1)),
+      λ b. load-read (table-of (now (a .table)) b) (a .c) (now (a .registers)) (now (a .ro)) (now (a .rv)) (now (a .wo)) (now (a .wv)) (a .r) (a .o) (f .result) (f .ensures) (c .before .before .before .before .before .before .if1 .left) (g .result) (g .ensures) (c .assign2 .result) (c .assign2 .last .0) (c .before .before .before .if2 .taken) (c .assign2 .ensures .0) (rw (read-back (c .before .assign-arg4 .given)) at (c .assign2 .ensures .1)),
       (bounded-advanced 0 (a .c) (c .assign2 .result) (c .assign2 .ensures .0) (p .0), p .4),
     )
 
@@ -93,7 +93,7 @@ returns-3 c =
     let g = c .before .before .before .find2 in
     let k = p .0 .reads in
     let h = p .1 in (
-      λ allow. rw (read-back (c .before .value .given)) (load-new (table-of (now (a .table)) allow) (a .c) (now (a .registers)) (now (a .ro)) (now (a .rv)) (now (a .wo)) (now (a .wv)) (a .r) (a .o) (f .result) (f .ensures) (c .before .before .before .before .before .if1 .left) (g .result) (g .ensures) (c .before .before .if2 .left) (omega arith) (p .4)),
+      λ b. rw (read-back (c .before .value .given)) (load-new (table-of (now (a .table)) b) (a .c) (now (a .registers)) (now (a .ro)) (now (a .rv)) (now (a .wo)) (now (a .wv)) (a .r) (a .o) (f .result) (f .ensures) (c .before .before .before .before .before .if1 .left) (g .result) (g .ensures) (c .before .before .if2 .left) (omega arith) (p .4)),
       (record { reads = omega arith; writes = omega (arith, p .0 .writes) }, room-set (now (a .ro)) (now (a .rv)) (a .c .reads) (a .o) _ (p .4)),
     )
 

@@ -8,7 +8,7 @@ use borrow.Author.Needs.{needs}
 use Rattle.arith.specs.IntegerLaws.{read-back}
 use Rattle.cells.specs.Cells.{cells}
 use Rattle.execution.specs.Run.{table-of, register}
-use Rattle.execution.specs.LentTable.{lent-allowed, allowed-at}
+use Rattle.execution.specs.LentTable.{lent-allowed, lent-beside, allowed-at}
 use Rattle.execution.specs.Arrays.{room-set}
 use Rattle.execution_effects.specs.OneOperation.{bounded-advanced, bounded-stopped, store-outside, store-again, store-new}
 use Rattle.execution_effects.proofs.store.Statement.{statement}
@@ -24,11 +24,11 @@ value c = c .before .before .before
 
 -- the test asks what the table asks of the register's value
 tested : (c : tie.After-allows) {t : Bool} → not (c .allows .result) ≡ t
-    → (let a = start c .args in (n : ℕ) → a .o < n → lent-allowed n (a .bounds) (cells (now (a .area))) (a .o) (register (now (a .registers)) (a .r)) ≡ not t)
+    → (let a = start c .args in (n : ℕ) → a .o < n → lent-allowed n (a .objects) (cells (now (a .area))) (a .o) (register (now (a .registers)) (a .r)) ≡ not t)
 tested c e n h =
     let a = start c .args in
     let same = rw (read-back (value c .v .given)) at (c .allows .ensures) in
-    allowed-at n (a .bounds) (cells (now (a .area))) (a .o) h (register (now (a .registers)) (a .r))
+    allowed-at n (a .objects) (cells (now (a .area))) (a .o) h (register (now (a .registers)) (a .r))
     ∙ sym same ∙ sym (Bool·not-not (c .allows .result)) ∙ ap not e
 
 mul-v : tie.Need-mul-v
@@ -55,7 +55,7 @@ returns c =
     let a = s .args in
     let p = s .pre in
     let no-store = tested (c .before .before) (c .before .if1 .taken) in (
-      λ n vs ro rv h. store-outside (table-of vs (lent-allowed n (a .bounds) (cells (now (a .area))))) (a .c) (now (a .registers)) ro rv (now (a .wo)) (now (a .wv)) (a .o) (register (now (a .registers)) (a .r)) (c .stop .result) (no-store n h) (c .stop .ensures),
+      λ n vs ro rv h. store-outside (table-of vs (lent-beside n (a .objects) (cells (now (a .area))))) (a .c) (now (a .registers)) ro rv (now (a .wo)) (now (a .wv)) (a .o) (register (now (a .registers)) (a .r)) (c .stop .result) (no-store n h) (c .stop .ensures),
       (bounded-stopped 3 (a .c) (c .stop .result) (c .stop .ensures) (p .0), p .4),
     )
 
@@ -86,7 +86,7 @@ returns-2 c =
     let f = c .before .before .find in
     let k = p .0 .writes in
     let h = p .1 in (
-      λ n vs ro rv o-low. rw (read-back (value (tests .before) .v .given)) (store-again (table-of vs (lent-allowed n (a .bounds) (cells (now (a .area))))) (a .c) (now (a .registers)) ro rv (now (a .wo)) (now (a .wv)) (a .o) (f .result) (register (now (a .registers)) (a .r)) (tested (tests .before) (tests .if1 .left) n o-low) (f .ensures) (omega arith) (p .4) (c .advance .result) (c .before .if2 .taken) (c .advance .ensures)),
+      λ n vs ro rv o-low. rw (read-back (value (tests .before) .v .given)) (store-again (table-of vs (lent-beside n (a .objects) (cells (now (a .area))))) (a .c) (now (a .registers)) ro rv (now (a .wo)) (now (a .wv)) (a .o) (f .result) (register (now (a .registers)) (a .r)) (tested (tests .before) (tests .if1 .left) n o-low) (f .ensures) (omega arith) (p .4) (c .advance .result) (c .before .if2 .taken) (c .advance .ensures)),
       (bounded-advanced 0 (a .c) (c .advance .result) (c .advance .ensures) (p .0), room-set (now (a .wo)) (now (a .wv)) (f .result) (a .o) _ (p .4)),
     )
 
@@ -105,7 +105,7 @@ returns-3 c =
     let f = c .before .before .find in
     let k = p .0 .writes in
     let h = p .1 in (
-      λ n vs ro rv o-low. rw (read-back (value (tests .before) .v .given)) (store-new (table-of vs (lent-allowed n (a .bounds) (cells (now (a .area))))) (a .c) (now (a .registers)) ro rv (now (a .wo)) (now (a .wv)) (a .o) (f .result) (register (now (a .registers)) (a .r)) (tested (tests .before) (tests .if1 .left) n o-low) (f .ensures) (omega arith) (p .4) (c .before .if2 .left)),
+      λ n vs ro rv o-low. rw (read-back (value (tests .before) .v .given)) (store-new (table-of vs (lent-beside n (a .objects) (cells (now (a .area))))) (a .c) (now (a .registers)) ro rv (now (a .wo)) (now (a .wv)) (a .o) (f .result) (register (now (a .registers)) (a .r)) (tested (tests .before) (tests .if1 .left) n o-low) (f .ensures) (omega arith) (p .4) (c .before .if2 .left)),
       (record { reads = omega (arith, p .0 .reads); writes = omega arith }, room-set (now (a .wo)) (now (a .wv)) (f .result) (a .o) _ (p .4)),
     )
 

@@ -15,11 +15,11 @@ use Rattle.execution_interpreter.proofs.execute.Statement.{statement}
 use Rattle.execution_interpreter.proofs.execute.Tie as tie
 
 abbrev Inv-loop : tie.InvT-loop
-Inv-loop table area bounds body registers₀ ro₀ rv₀ wo₀ wv₀ budget size t₀ used₀ registers ro rv wo wv t used =
-    Going (lent-table table bounds (cells area)) (operations body) budget (run-of-arrays t₀ registers₀ ro₀ rv₀ wo₀ wv₀) used (run-of-arrays t registers ro rv wo wv) × (t .outcome ≡ 0) × Lent t ro rv wo wv
+Inv-loop table area objects body registers₀ ro₀ rv₀ wo₀ wv₀ budget size t₀ used₀ registers ro rv wo wv t used =
+    Going (lent-table table objects (cells area)) (operations body) budget (run-of-arrays t₀ registers₀ ro₀ rv₀ wo₀ wv₀) used (run-of-arrays t registers ro rv wo wv) × (t .outcome ≡ 0) × Lent t ro rv wo wv
 
 abbrev μ-loop : tie.MeasureT-loop
-μ-loop table area bounds body registers₀ ro₀ rv₀ wo₀ wv₀ budget size t₀ used₀ registers ro rv wo wv t used = budget - used
+μ-loop table area objects body registers₀ ro₀ rv₀ wo₀ wv₀ budget size t₀ used₀ registers ro rv wo wv t used = budget - used
 
 -- ---- the runs at entry, at the loop's head and after an operation
 
@@ -36,7 +36,7 @@ here l = run-of-arrays (l .loop .t) (l .loop .registers) (l .loop .ro) (l .loop 
 
 abbrev table : tie.Start Inv-loop μ-loop → Table
 table s =
-    let a = s .args in lent-table (now (a .table)) (a .bounds) (cells (now (a .area)))
+    let a = s .args in lent-table (now (a .table)) (a .objects) (cells (now (a .area)))
 
 body-formed : (s : tie.Start Inv-loop μ-loop) → Formed capacity (object-count (now (s .args .table))) (now (s .args .body))
 body-formed s = formed capacity (object-count (now (s .args .table))) (now (s .args .body)) (s .pre .0 .0)

@@ -27,7 +27,7 @@ returns c =
     let e = x .ensures in
     let m = formed capacity (object-count (now (s .args .table))) b (s .pre .0 .0) .most in
     let k = length-operations b in (
-      run-whole (lent-table (now (s .args .table)) (s .args .bounds) (cells (now (s .args .area)))) (operations b) (x .result .counts) (g .0) (g .1 .0) (g .1 .1 .0) (g .1 .1 .1 .0) (g .1 .1 .1 .1 .0) (omega arith) (e .0 .run),
+      run-whole (lent-table (now (s .args .table)) (s .args .objects) (cells (now (s .args .area)))) (operations b) (x .result .counts) (g .0) (g .1 .0) (g .1 .1 .0) (g .1 .1 .1 .0) (g .1 .1 .1 .1 .0) (omega arith) (e .0 .run),
       e .1,
     )
 

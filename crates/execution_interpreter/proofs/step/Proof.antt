@@ -13,7 +13,7 @@ use Rattle.cells.specs.Cells.{cells}
 use Rattle.operation.specs.Body.{register-count, most-divisor}
 use Rattle.operation.specs.declared.Operation.the-variants.{Skip}
 use Rattle.execution.specs.Run.{object-count, go, failed, register, move}
-use Rattle.execution.specs.LentTable.{lent-table, lent-allowed}
+use Rattle.execution.specs.LentTable.{lent-table, lent-beside}
 use Rattle.execution.specs.Arrays.{capacity}
 use Rattle.execution_effects.specs.OneOperation.{bounded-advanced, bounded-stopped, settled-sum, went, halted}
 use Rattle.execution_interpreter.proofs.step.Statement.{statement}
@@ -168,9 +168,9 @@ unfolding move
 returns c =
     let told = c .before .before .before .before .before .before .before in
     let a = told .before .before .before .args in
-    let allow = lent-allowed (object-count (now (a .table))) (a .bounds) (cells (now (a .area))) in
+    let rest = lent-beside (object-count (now (a .table))) (a .objects) (cells (now (a .area))) in
     let done = c .load .ensures in (
-      rw (told .op .given .1) (done .0 allow),
+      rw (told .op .given .1) (done .0 rest),
       record { bounded = done .1 .0; read-room = done .1 .1; write-room = told .before .before .before .pre .0 .write-room },
     )
 
@@ -190,7 +190,7 @@ returns-3 c =
     let s = c .before .before .before .before .before .before in
     let a = s .args in
     let p = s .pre in (
-      rw (c .before .before .before .op3 .given .1, rw (read-back (c .before .before .known-told3 .given .1 .0 .1)) at (c .assign .ensures .1)) (went (lent-table (now (a .table)) (a .bounds) (cells (now (a .area)))) (a .c) (now (a .registers)) (now (a .ro)) (now (a .rv)) (now (a .wo)) (now (a .wv)) 0 (c .assign .result) _ (c .assign .ensures .0)),
+      rw (c .before .before .before .op3 .given .1, rw (read-back (c .before .before .known-told3 .given .1 .0 .1)) at (c .assign .ensures .1)) (went (lent-table (now (a .table)) (a .objects) (cells (now (a .area)))) (a .c) (now (a .registers)) (now (a .ro)) (now (a .rv)) (now (a .wo)) (now (a .wv)) 0 (c .assign .result) _ (c .assign .ensures .0)),
       record { bounded = bounded-advanced 0 (a .c) (c .assign .result) (c .assign .ensures .0) (p .0 .bounded); read-room = p .0 .read-room; write-room = p .0 .write-room },
     )
 
@@ -202,7 +202,7 @@ returns-4 c =
     let x = c .before .before .before .before .before .before .op4 .given .0 in
     let p = s .pre in (
       rw (c .before .before .before .before .before .before .op4 .given .1)
-          (rw (c .before .before .add .ensures, read-back {z = register (now (a .registers)) (x .0)} (c .before .before .before .before .add-arg .given), read-back {z = register (now (a .registers)) (x .1 .0)} (c .before .before .before .add-arg2 .given), settled-sum) at (c .settle .ensures .0 (lent-table (now (a .table)) (a .bounds) (cells (now (a .area)))) (now (a .ro)) (now (a .wo)) (now (a .rv)) (now (a .wv)))),
+          (rw (c .before .before .add .ensures, read-back {z = register (now (a .registers)) (x .0)} (c .before .before .before .before .add-arg .given), read-back {z = register (now (a .registers)) (x .1 .0)} (c .before .before .before .add-arg2 .given), settled-sum) at (c .settle .ensures .0 (lent-table (now (a .table)) (a .objects) (cells (now (a .area)))) (now (a .ro)) (now (a .wo)) (now (a .rv)) (now (a .wv)))),
       record { bounded = c .settle .ensures .1; read-room = p .0 .read-room; write-room = p .0 .write-room },
     )
 
@@ -214,7 +214,7 @@ returns-5 c =
     let x = c .before .before .before .before .before .before .op5 .given .0 in
     let p = s .pre in (
       rw (c .before .before .before .before .before .before .op5 .given .1)
-          (rw (c .before .before .subtract .ensures, read-back {z = register (now (a .registers)) (x .0)} (c .before .before .before .before .subtract-arg .given), read-back {z = register (now (a .registers)) (x .1 .0)} (c .before .before .before .subtract-arg2 .given), settled-sum) at (c .settle2 .ensures .0 (lent-table (now (a .table)) (a .bounds) (cells (now (a .area)))) (now (a .ro)) (now (a .wo)) (now (a .rv)) (now (a .wv)))),
+          (rw (c .before .before .subtract .ensures, read-back {z = register (now (a .registers)) (x .0)} (c .before .before .before .before .subtract-arg .given), read-back {z = register (now (a .registers)) (x .1 .0)} (c .before .before .before .subtract-arg2 .given), settled-sum) at (c .settle2 .ensures .0 (lent-table (now (a .table)) (a .objects) (cells (now (a .area)))) (now (a .ro)) (now (a .wo)) (now (a .rv)) (now (a .wv)))),
       record { bounded = c .settle2 .ensures .1; read-room = p .0 .read-room; write-room = p .0 .write-room },
     )
 
@@ -224,7 +224,7 @@ returns-6 c =
     let a = s .args in
     let x = c .before .before .before .before .op6 .given in
     let p = s .pre in (
-      rw (x .1, skip-below (now (a .registers)) (x .0 .0) (x .0 .1 .0) (rw (read-back (c .before .before .if12 .given)) at (c .before .if1 .taken))) (went (lent-table (now (a .table)) (a .bounds) (cells (now (a .area)))) (a .c) (now (a .registers)) (now (a .ro)) (now (a .rv)) (now (a .wo)) (now (a .wv)) _ (c .advance .result) (now (a .registers)) (c .advance .ensures)),
+      rw (x .1, skip-below (now (a .registers)) (x .0 .0) (x .0 .1 .0) (rw (read-back (c .before .before .if12 .given)) at (c .before .if1 .taken))) (went (lent-table (now (a .table)) (a .objects) (cells (now (a .area)))) (a .c) (now (a .registers)) (now (a .ro)) (now (a .rv)) (now (a .wo)) (now (a .wv)) _ (c .advance .result) (now (a .registers)) (c .advance .ensures)),
       record { bounded = bounded-advanced _ (a .c) (c .advance .result) (c .advance .ensures) (p .0 .bounded); read-room = p .0 .read-room; write-room = p .0 .write-room },
     )
 
@@ -234,7 +234,7 @@ returns-7 c =
     let a = s .args in
     let x = c .before .before .before .before .op6 .given in
     let p = s .pre in (
-      rw (x .1, skip-not-below (now (a .registers)) (x .0 .0) (x .0 .1 .0) (rw (read-back (c .before .before .if12 .given)) at (c .before .if1 .left))) (went (lent-table (now (a .table)) (a .bounds) (cells (now (a .area)))) (a .c) (now (a .registers)) (now (a .ro)) (now (a .rv)) (now (a .wo)) (now (a .wv)) 0 (c .advance2 .result) (now (a .registers)) (c .advance2 .ensures)),
+      rw (x .1, skip-not-below (now (a .registers)) (x .0 .0) (x .0 .1 .0) (rw (read-back (c .before .before .if12 .given)) at (c .before .if1 .left))) (went (lent-table (now (a .table)) (a .objects) (cells (now (a .area)))) (a .c) (now (a .registers)) (now (a .ro)) (now (a .rv)) (now (a .wo)) (now (a .wv)) 0 (c .advance2 .result) (now (a .registers)) (c .advance2 .ensures)),
       record { bounded = bounded-advanced 0 (a .c) (c .advance2 .result) (c .advance2 .ensures) (p .0 .bounded); read-room = p .0 .read-room; write-room = p .0 .write-room },
     )
 
@@ -244,7 +244,7 @@ returns-8 c =
     let s = c .before .before .before .before in
     let a = s .args in
     let p = s .pre in (
-      rw (c .before .enum-told .given .1) (halted (lent-table (now (a .table)) (a .bounds) (cells (now (a .area)))) (a .c) (now (a .registers)) (now (a .ro)) (now (a .rv)) (now (a .wo)) (now (a .wv)) failed (c .stop .result) (c .stop .ensures)),
+      rw (c .before .enum-told .given .1) (halted (lent-table (now (a .table)) (a .objects) (cells (now (a .area)))) (a .c) (now (a .registers)) (now (a .ro)) (now (a .rv)) (now (a .wo)) (now (a .wv)) failed (c .stop .result) (c .stop .ensures)),
       record { bounded = bounded-stopped 1 (a .c) (c .stop .result) (c .stop .ensures) (p .0 .bounded); read-room = p .0 .read-room; write-room = p .0 .write-room },
     )
 
@@ -254,7 +254,7 @@ returns-9 c =
     let s = c .before .before .before .before .before .before .before .before in
     let a = s .args in
     let p = s .pre in (
-      rw (c .before .before .before .before .before .op7 .given .1, rw (read-back (c .before .before .divide .ok), c .before .before .divide .ensures, read-back (c .before .before .before .divide-arg .given)) at (c .assign2 .ensures .1)) (went (lent-table (now (a .table)) (a .bounds) (cells (now (a .area)))) (a .c) (now (a .registers)) (now (a .ro)) (now (a .rv)) (now (a .wo)) (now (a .wv)) 0 (c .assign2 .result) _ (c .assign2 .ensures .0)),
+      rw (c .before .before .before .before .before .op7 .given .1, rw (read-back (c .before .before .divide .ok), c .before .before .divide .ensures, read-back (c .before .before .before .divide-arg .given)) at (c .assign2 .ensures .1)) (went (lent-table (now (a .table)) (a .objects) (cells (now (a .area)))) (a .c) (now (a .registers)) (now (a .ro)) (now (a .rv)) (now (a .wo)) (now (a .wv)) 0 (c .assign2 .result) _ (c .assign2 .ensures .0)),
       record { bounded = bounded-advanced 0 (a .c) (c .assign2 .result) (c .assign2 .ensures .0) (p .0 .bounded); read-room = p .0 .read-room; write-room = p .0 .write-room },
     )
 

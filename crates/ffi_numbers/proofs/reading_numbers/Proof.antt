@@ -18,7 +18,7 @@ unfolding numbers
 returns c = rw (c .before .r .given .1, read-back (c .known-told .given .0 .1)) (record { says = λ k e. refl })
 
 returns-2 : tie.Need-returns-2
-returns-2 c = rw (c .before .r2 .given .1) (turned-back 1 _)
+returns-2 c = rw (c .before .r2 .given .1) (turned-back 2 _)
 
 pub reading-numbers-spec : {M : Type 1} → statement M
 reading-numbers-spec = tie.close (tie.spec enum-known-r enum-known-r-2 returns returns-2)

@@ -1,6 +1,6 @@
 -- `final_delivery::run_again` meets its contract: the values of the committed state are gathered, and the body is run on them and the bounds.
 use mathlib.Core.Path.{refl}
-use Rattle.final_delivery.specs.Decide.{rerun-laid, values-few, values-lent, values-formed, bounds-there, values-ran}
+use Rattle.final_delivery.specs.Decide.{rerun-laid, rerun-counted, values-few, values-lent, values-formed, bounds-there, values-ran}
 use Rattle.final_delivery.proofs.run_again.Statement.{statement}
 use Rattle.final_delivery.proofs.run_again.Tie as tie
 
@@ -9,16 +9,16 @@ use Rattle.final_delivery.proofs.run_again.Tie as tie
 abbrev start : tie.After-committed-values → tie.Start
 start k = k .before .before .before .before
 
-abbrev gathered : tie.After-bounds-place → tie.After-committed-values
+abbrev gathered : tie.After-objects-place → tie.After-committed-values
 gathered k = k .before
 
 committed-values-requires : tie.Need-committed-values-requires
 committed-values-requires c κs =
     let s = c .before .before .before in
-    (s .pre .0 .0, rerun-laid (s .pre .0 .0) (s .pre .0 .1) (s .pre .1 .0), refl)
+    (s .pre .0 .0, rerun-laid (s .pre .0 .0) (s .pre .0 .1) (s .pre .1 .0), rerun-counted (s .pre .0 .0) (s .pre .0 .1) (s .pre .1 .0), refl)
 
-bounds-place-requires : tie.Need-bounds-place-requires
-bounds-place-requires c κs = start c .pre .0 .0
+objects-place-requires : tie.Need-objects-place-requires
+objects-place-requires c κs = start c .pre .0 .0
 
 array-share-prefix-table : tie.Need-array-share-prefix-table
 array-share-prefix-table c =
@@ -38,21 +38,21 @@ run-requires c κs =
     let g = gathered k in
     let s = start g in
     let v = g .committed-values .ensures in
-    ((values-formed (s .pre .0 .0) (s .pre .0 .1) (s .pre .1 .0) v, record { objects = refl; values = refl }, s .pre .1 .1), bounds-there (s .pre .0 .0) (s .pre .0 .1) (s .pre .1 .0) v (k .bounds-place .ensures))
+    ((values-formed (s .pre .0 .0) (s .pre .0 .1) (s .pre .1 .0) v, record { objects = refl; values = refl }, s .pre .1 .1), bounds-there (s .pre .0 .0) (s .pre .0 .1) (s .pre .1 .0) v (k .objects-place .ensures))
 
 returns : tie.Need-returns
 returns c =
     let k = c .before .before .before .before .before .before in
     let g = gathered k in
     let s = start g in
-    record { ran = λ p. values-ran (s .pre .0 .0) (s .pre .0 .1) p (g .committed-values .ensures) (k .bounds-place .ensures) _ _ _ _ _ (c .run .ensures .0) }
+    record { ran = λ p. values-ran (s .pre .0 .0) (s .pre .0 .1) p (g .committed-values .ensures) (k .objects-place .ensures) _ _ _ _ _ (c .run .ensures .0) }
 
 pub run-again-spec : {M : Type 1} → statement M
 run-again-spec =
     tie.close
     (tie.spec
     committed-values-requires
-    bounds-place-requires
+    objects-place-requires
     array-share-prefix-table
     slice-aggregate-run
     run-requires

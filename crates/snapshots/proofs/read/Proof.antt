@@ -1,20 +1,24 @@
 -- `snapshots::read` meets its contract: each way out is a law of specs/ReaderAnswers, and the block that is lent says the object's versions.
-use mathlib.Core.Path.{_≡_, refl}
-use Prim.Native.Nat.{suc, _+_, _-_, _*_, _≤_}
+use mathlib.Core.Path.{_≡_, refl, sym, ap, _∙_, subst}
+use Prim.Native.Nat.{suc, _+_, _-_, _*_, _^_, _≤_, _<_}
 use native.Mathlib.Nat.{suc-mul}
 use native.Mathlib.Omega.{arith}
+use lib.IntN.{ℤ}
+use lib.Signed.{mag}
 use lib.ListN.{length}
 use borrow.Author.Needs.{needs}
 use borrow.Rule.Slice.PartMut.{mid-len}
 use Rattle.cells.specs.Signed.{told}
+use Rattle.model.specs.Serial.{Version}
 use Rattle.model.specs.Replica.{Replica}
 use Rattle.model.specs.Calls.{read}
 use Rattle.layout.specs.Offsets.{reader-at, size-at, object-width, versions-width, object-at}
 use Rattle.layout.specs.Holds.{Holds}
 use Rattle.layout.specs.Reading.{cell-inside, size-read, size-few, object-inside}
-use Rattle.snapshots.specs.ReaderBlocks.{lent-count}
+use Rattle.layout.specs.LentBlock.{lent-count}
+use Rattle.versions.specs.Round.{seen-fits}
 use Rattle.layout.specs.Contract.{met-beside}
-use Rattle.snapshots.specs.ReaderAnswers.{read-bodies, read-no-reader, read-not-open, read-no-object, read-done}
+use Rattle.snapshots.specs.ReaderAnswers.{read-bodies, read-no-reader, read-not-open, read-no-object, seen-small, read-done}
 use Rattle.snapshots.proofs.read.Statement.{statement}
 use Rattle.snapshots.proofs.read.Tie as tie
 
@@ -122,17 +126,31 @@ lookup-requires c κs =
     let w : f .result * 8 + t .result * 8 - f .result * 8 ≡ versions-width (a .l) * 8 = omega (arith, t .ensures) in
     omega (arith, mid-len (f .result * 8) (f .result * 8 + t .result * 8) (a .records .now) (ends (c .before)), w, lent-count (e .args .l) (e .pre .0 .sane) (e .args .records .now) (p .replica) (p .holds) (a .object) (omega (arith, objects g (p .replica) (p .holds))) (f .result) _ (f .ensures .exact) w)
 
+cast-t18 : tie.Need-cast-t18
+cast-t18 c =
+    let g = c .before .before .before .before .before .before in
+    let e = entry g in
+    let a = e .args in
+    let p = e .pre .1 in
+    let f = c .before .before .before .before .object-at in
+    let t = c .before .before .before .bounds-at in
+    let w : f .result * 8 + t .result * 8 - f .result * 8 ≡ versions-width (a .l) * 8 = omega (arith, t .ensures) in
+    let seen = seen-small (a .l) (e .pre .0 .sane) (a .records .now) (p .replica) (p .holds) (p .shape) (a .object) (omega (arith, objects g (p .replica) (p .holds))) (f .result) _ (f .ensures .exact) w (g .before .before .before .get .result - 1) in
+    omega (arith, seen, ap (λ (v : Version). v .stamp) (c .before .lookup .ensures))
+
 returns-4 : tie.Need-returns-4
 returns-4 c =
-    let g = c .before .before .before .before .before in
+    let g = c .before .before .before .before .before .before .before in
     let e = entry g in
     let a = e .args in
     let x = g .before .before .before .get in
     let at = g .before .before .before .before .reader-at in
-    let f = c .before .before .before .object-at in
-    let t = c .before .before .bounds-at in
+    let seen = c .before .before .lookup in
+    let f = c .before .before .before .before .before .object-at in
+    let t = c .before .before .before .before .bounds-at in
     let w : f .result * 8 + t .result * 8 - f .result * 8 ≡ versions-width (a .l) * 8 = omega (arith, t .ensures) in
-    met-beside (a .l) (e .pre .0 .sane) (read (a .reader) (a .object)) (a .records .now) (e .pre .1 .bytes) _ _ (read-bodies (a .l) (a .reader) (a .object)) (λ u h k. read-done (a .l) (e .pre .0 .sane) (a .records .now) u h (a .reader) (search needs) (at .result) (at .ensures .exact) (x .result) (x .ensures) (search needs) (a .object) (omega (arith, objects g u h)) (f .result) _ (f .ensures .exact) w _ (told (c .lookup .ok) (c .lookup .ensures)))
+    let value = subst (λ (v : Version). mag (v .value) < 2 ^ 63) (sym (seen .ensures)) (seen-fits (x .result - 1) (f .result * 8) (f .result * 8 + t .result * 8 - f .result * 8) (a .records .now) (e .pre .1 .bytes)) in
+    met-beside (a .l) (e .pre .0 .sane) (read (a .reader) (a .object)) (a .records .now) (e .pre .1 .bytes) _ _ (read-bodies (a .l) (a .reader) (a .object)) (λ u h k. read-done (a .l) (e .pre .0 .sane) (a .records .now) u h (a .reader) (g .before .before .before .before .before .if1 .left) (at .result) (at .ensures .exact) (x .result) (x .ensures) (omega (arith, g .before .before .if2 .left)) (a .object) (omega (arith, c .before .before .before .before .before .before .if3 .left, objects g u h)) (f .result) _ (f .ensures .exact) w _ (ap (λ (v : ℤ). record { stamp = seen .result .stamp; value = v }) (told value refl) ∙ seen .ensures))
 
 pub read-spec : {M : Type 1} → statement M
 read-spec =
@@ -155,4 +173,5 @@ read-spec =
     part-lookup-end
     sub-lookup-2
     lookup-requires
+    cast-t18
     returns-4)

@@ -10,7 +10,7 @@ use Rattle.operation.specs.Body.{body-length}
 use Rattle.layout.specs.Layout.{Areas, parse}
 use Rattle.layout.specs.Offsets.{record-length, body-at}
 use Rattle.layout.specs.Fit.{fit-says, lengths-say}
-use Rattle.rows.specs.Committed.{bounds-place}
+use Rattle.rows.specs.Committed.{objects-place}
 use Rattle.speculative_execution.specs.Passing.{Going, Worked}
 use Rattle.speculative_execution.specs.LentAreas.{pending-there, low-place, body-inside, begun-first, begun-last, lent-ready, lent-most, lent-next, lent-last}
 use Rattle.speculative_execution.proofs.execute_pending.Statement.{statement}
@@ -92,8 +92,8 @@ body-bytes p = p .body-length .ensures ∙ ap body-length (p .before .small .ens
 -- ---- a turn
 
 -- the bounds' place
-placed : (lp : At) → lp .before .bounds-place .result ≡ bounds-place (start lp .args .l)
-placed lp = lp .before .bounds-place .ensures
+placed : (lp : At) → lp .before .objects-place .result ≡ objects-place (start lp .args .l)
+placed lp = lp .before .objects-place .ensures
 
 most : (x : After) → x .advance .result .used ≤ head (prepared x) .loop .left
 most x =
@@ -116,8 +116,8 @@ pending-at-requires c κs = c .before .before .before .pre .sane
 get-requires : tie.Need-get-requires Inv-loop μ-loop
 get-requires c κs = omega (arith, c .pending-at .ensures .exact, lengths (c .before .before .before .before))
 
-bounds-place-requires : tie.Need-bounds-place-requires Inv-loop μ-loop
-bounds-place-requires c κs = c .before .before .before .before .before .pre .sane
+objects-place-requires : tie.Need-objects-place-requires Inv-loop μ-loop
+objects-place-requires c κs = c .before .before .before .before .before .pre .sane
 
 loop-holds : tie.Need-loop-holds Inv-loop μ-loop
 loop-holds c =
@@ -238,7 +238,7 @@ execute-pending-spec =
     μ-loop
     pending-at-requires
     get-requires
-    bounds-place-requires
+    objects-place-requires
     loop-holds
     row-at-requires
     mul-row

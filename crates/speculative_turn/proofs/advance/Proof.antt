@@ -5,7 +5,7 @@ use borrow.Rule.Slice.PartMut.{put-same}
 use denote.Ref.{now}
 use Prim.Native.Nat.{_-_}
 use Rattle.speculative_turn.specs.Advance.{some-body, idle-sound, idle}
-use Rattle.speculative_turn.specs.AreaRow.{area-row, allow-in}
+use Rattle.speculative_turn.specs.AreaRow.{area-row, beside-in}
 use Rattle.speculative_turn.proofs.advance.Statement.{statement}
 use Rattle.speculative_turn.proofs.advance.Tie as tie
 
@@ -61,7 +61,7 @@ returns c =
     let done = sym (test .is-finished .ensures) ∙ c .before .before .before .before .before .if1 .taken in
     record {
       new-row = area-row (now (a .records)) (a .row) (a .next);
-      leaves = idle (s .pre .ready) done (over .overlay-writes .last .1 .0) (over .overlay-writes .ensures .0 (allow-in (now (a .records)) (a .bounds) (now (a .table))));
+      leaves = idle (s .pre .ready) done (over .overlay-writes .last .1 .0) (over .overlay-writes .ensures .0 (beside-in (now (a .records)) (a .objects) (now (a .table))));
       back = sym (put-same (a .row) (a .next - a .row) (now (a .records)));
     }
 

@@ -4,7 +4,7 @@ use borrow.Author.Needs.{needs}
 use denote.Ref.{now}
 use Rattle.operation.specs.Body.{register-count}
 use Rattle.speculative_turn.specs.Advance.{Ran, some-body, lent, unstopped, ran, storable, overlays, leaves}
-use Rattle.speculative_turn.specs.AreaRow.{area-row, allow-in}
+use Rattle.speculative_turn.specs.AreaRow.{area-row, beside-in}
 use Rattle.speculative_turn.proofs.resume.Statement.{statement}
 use Rattle.speculative_turn.proofs.resume.Tie as tie
 
@@ -24,7 +24,7 @@ stored f = f .before .before .before
 
 -- the run after the operations, in the arrays
 carried : (e : tie.After-execute) → (let a = start (loaded e) .args in let x = e .execute .last .1 .1 .1 .1 in
-    Ran (area-row (now (a .records)) (a .row) (a .next)) (now (a .body)) (now (a .table)) (allow-in (now (a .records)) (a .bounds) (now (a .table))) (a .budget)
+    Ran (area-row (now (a .records)) (a .row) (a .next)) (now (a .body)) (now (a .table)) (beside-in (now (a .records)) (a .objects) (now (a .table))) (a .budget)
     (e .execute .result) (x .0) (x .1 .0) (x .1 .1 .0) (x .1 .1 .1 .0) (x .1 .1 .1 .1 .0))
 carried e =
     let l = loaded e in
@@ -99,7 +99,7 @@ returns c =
       new-row = row .store-row .last .0;
       leaves =
           leaves (s .pre .0 .ready) (carried e) (row .store-row .ensures) end (over .overlay .last .0)
-          (over .overlay .ensures .0 (allow-in (now (a .records)) (a .bounds) (now (a .table))));
+          (over .overlay .ensures .0 (beside-in (now (a .records)) (a .objects) (now (a .table))));
       back = refl;
     }
 

@@ -1,6 +1,7 @@
 -- `versions::lookup` meets its contract. Invariant: the answer is that of the versions left, from cell k on. The measure is their number.
-use mathlib.Core.Path.{_≡_, _∙_, sym}
+use mathlib.Core.Path.{_≡_, _∙_, sym, ap}
 use Prim.Native.Nat.{_+_, _*_}
+use lib.IntN.{ℤ}
 use lib.ListN.{getD, drop}
 use borrow.Author.Needs.{needs}
 use Rattle.cells.specs.Signed.{told}
@@ -14,7 +15,7 @@ use Rattle.versions.proofs.lookup.Tie as tie
 abbrev Inv-loop : tie.InvT-loop
 Inv-loop block stamp left₀ k₀ left k =
     (k + 2 * left ≡ 1 + 2 * getD (cells block) 0 0)
-    × (as-of stamp (block-versions (cells block)) .value ≡ as-of stamp (versions-in left (drop k (cells block))) .value)
+    × (as-of stamp (block-versions (cells block)) ≡ as-of stamp (versions-in left (drop k (cells block))))
 
 abbrev μ-loop : tie.MeasureT-loop
 μ-loop block stamp left₀ k₀ left k = left
@@ -40,7 +41,9 @@ returns : tie.Need-returns Inv-loop μ-loop
 returns c =
     let a = c .before .before .before .before .before .before .before .args in
     let i = c .before .before .before .before .loop in
-    told (c .get-signed .ok) (c .get-signed .ensures ∙ sym (i .inv .1 ∙ look-here (i .left) (i .k) (a .stamp) (cells (a .block .now)) (c .before .before .get2 .result) (c .before .before .get2 .ensures) (search needs) (search needs)))
+    let s = c .before .before .get2 in
+    let seen = i .inv .1 ∙ look-here (i .left) (i .k) (a .stamp) (cells (a .block .now)) (s .result) (s .ensures) (search needs) (search needs) in
+    ap (λ (v : ℤ). record { stamp = s .result; value = v }) (told (c .get-signed .ok) (c .get-signed .ensures)) ∙ sym seen
 
 add-k : tie.Need-add-k Inv-loop μ-loop
 add-k c = search needs

@@ -13,6 +13,9 @@ use Rattle.console.proofs.output.put_reading.Tie as tie
 enum-known-r : tie.Need-enum-known-r
 enum-known-r c = search needs
 
+cast-t10 : tie.Need-cast-t10
+cast-t10 c = search needs
+
 slice-aggregate-put-numbers : tie.Need-slice-aggregate-put-numbers
 slice-aggregate-put-numbers c = search needs
 
@@ -22,8 +25,8 @@ put-numbers-requires c κs = search needs
 enum-known-r-2 : tie.Need-enum-known-r-2
 enum-known-r-2 c = search needs
 
-cast-t14 : tie.Need-cast-t14
-cast-t14 c = search needs
+cast-t16 : tie.Need-cast-t16
+cast-t16 c = search needs
 
 slice-aggregate-put-numbers-2 : tie.Need-slice-aggregate-put-numbers-2
 slice-aggregate-put-numbers-2 c = search needs
@@ -38,10 +41,10 @@ returns : tie.Need-returns
 unfolding numbers
 returns c =
     let at-put = c .before .before in
-    let at-arm = at-put .before .before .before .before in
-    let v = at-arm .r .given .0 .0 in
-    let told : toZ w64 (ofZ w64 v) ≡ v = toZ-ofZ (record { sfits = at-put .before .before .before .known-told .given .0 .1 }) in
-    rw (at-arm .r .given .1) (rw told at (at-put .put-numbers .ensures))
+    let at-arm = at-put .before .before .before .before .before in
+    let n = at-arm .r .given .0 in
+    let told : toZ w64 (ofZ w64 (n .0)) ≡ n .0 = toZ-ofZ (record { sfits = at-put .before .before .before .before .known-told .given .0 .1 }) in
+    rw (at-arm .r .given .1, as-signed (n .1 .0 .0) (omega arith)) (rw told at (at-put .put-numbers .ensures))
 
 same-length-2 : tie.Need-same-length-2
 same-length-2 c = search needs
@@ -58,10 +61,11 @@ put-reading-spec =
     tie.close
     (tie.spec
     enum-known-r
+    cast-t10
     slice-aggregate-put-numbers
     put-numbers-requires
     enum-known-r-2
-    cast-t14
+    cast-t16
     slice-aggregate-put-numbers-2
     put-numbers-requires-2
     same-length
