@@ -22,7 +22,7 @@ use Rattle.layout.specs.Fit.{fit}
 use Rattle.layout.specs.Act.{act, acts}
 use Rattle.layout.specs.Areas.{acts-fit, serializable-on-areas}
 use Rattle.agreement.specs.Trace.{Trace, list, answers, areas, replica, history}
-use Rattle.agreement.specs.TraceLaws.{dated, replica-same, reads-as-opened, same-commits}
+use Rattle.agreement.specs.TraceLaws.{dated, replica-same, reads-as-opened, same-commits, readers-agree}
 
 -- What holds of a trace: the answers of its calls, and the replica that the areas say after them.
 pub record Demand3 {l : Limits} (x : Trace l) : Type 0 where
@@ -38,6 +38,12 @@ pub record Demand3 {l : Limits} (x : Trace l) : Type 0 where
       → (cs : List Call) → All Typed cs → any (ends l r) cs ≡ false
       → (o : ℕ) → o < length (replica x .objects)
       → act l (read r o) (acts l (open-reader r ∷ cs) (areas x) .1) .0 ≡ version (newest (getD (replica x .objects) o []))
+  -- so two replicas with equal final deliveries have readers that agree: opened then, whatever comes after, they answer the same versions
+  pub readers : {m : Limits} (y : Trace m) → history x ≡ history y
+      → (r q : ℕ) → act l (open-reader r) (areas x) .0 ≡ done → act m (open-reader q) (areas y) .0 ≡ done
+      → (cs ds : List Call) → All Typed cs → All Typed ds → any (ends l r) cs ≡ false → any (ends m q) ds ≡ false
+      → (o : ℕ) → o < length (replica x .objects)
+      → act l (read r o) (acts l (open-reader r ∷ cs) (areas x) .1) .0 ≡ act m (read q o) (acts m (open-reader q ∷ ds) (areas y) .1) .0
   -- early results on record "equal those of running the pending jobs in early order, each on the committed table with the stores of those before it, a
   -- partly run one up to its place"
   pub early : EarlyResults (replica x)
@@ -50,6 +56,7 @@ demand-3-on-areas {l} x =
       serializable = serializable-on-areas l (x .sane) (x .opening) (x .before) (x .accepted) (x .typed .0) (x .later) (x .typed .1);
       agreement = same-commits x;
       snapshot = reads-as-opened x;
+      readers = readers-agree x;
       early = subst EarlyResults (sym (replica-same x)) (demand-3-record l (start-of (x .opening)) (dated x) (x .later));
       shape = acts-fit l (x .sane) (x .opening) (x .before) (x .accepted) (x .typed .0) (x .later) (x .typed .1);
     }

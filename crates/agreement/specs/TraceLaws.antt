@@ -5,13 +5,13 @@ use mathlib.Core.List.{List, [], _∷_, _++_}
 use Prim.Native.Nat.{ℕ, zero, suc, _≤_, _<_}
 use native.Mathlib.Omega.{arith}
 use lib.IntN.{ℤ}
-use lib.ListN.{length, getD}
+use lib.ListN.{length, getD, length-map, List·getD-map}
 use borrow.Author.Tests.{eq-eqb}
 use Rattle.model.specs.declared.Limits.{Limits}
 use Rattle.model.specs.Lists.{pick, any}
 use Rattle.model.specs.Interface.{optimistic, execute, final, open-reader, close-reader, read, find, show-body, Call, opening, update, query, Answer}
 use Rattle.model.specs.Calls.{plain, done, version, is-key, bytes-of, shown, causes, refusal, judged}
-use Rattle.model.specs.Start.{Start, start-of}
+use Rattle.model.specs.Start.{Version, no-version, Start, start-of}
 use Rattle.model.specs.Replica.{Replica, newest, keyed, facts, opened, perform, call, calls}
 use Rattle.model.specs.ListLaws.{All}
 use Rattle.model.specs.Refusals.{accepted, plain-counted, plain-inside}
@@ -170,3 +170,26 @@ module _ {l m : Limits} (x : Trace l) (y : Trace m) (e : history x ≡ history y
       let k = settled l m (start-of (x .opening)) (start-of (y .opening)) (dated x) (x .later) (y .later) (sym (history-same x) ∙ e ∙ history-same y) in
       rw (answers-same x, replica-same x, answers-same y, replica-same y)
       (record { results = k .results; objects = k .objects; timestamp = k .timestamp })
+
+  same-version : (o : ℕ) → newest (getD (replica x .objects) o []) ≡ newest (getD (replica y .objects) o [])
+  same-version o =
+      sym (List·getD-map newest (replica x .objects) o [])
+      ∙ ap (λ (vs : List Version). getD vs o no-version) (states.same-newest same-commits)
+      ∙ List·getD-map newest (replica y .objects) o []
+
+  as-many : length (replica x .objects) ≡ length (replica y .objects)
+  as-many =
+      sym (length-map (replica x .objects) newest)
+      ∙ ap length (states.same-newest same-commits)
+      ∙ length-map (replica y .objects) newest
+
+  -- a reader of each, opened now
+  pub readers-agree : (r q : ℕ) → act l (update (open-reader r)) (areas x) .0 ≡ done → act m (update (open-reader q)) (areas y) .0 ≡ done
+      → (cs ds : List Call) → All Typed cs → All Typed ds → any (ends l r) cs ≡ false → any (ends m q) ds ≡ false
+      → (o : ℕ) → o < length (replica x .objects)
+      → act l (query (read r o)) (acts l (update (open-reader r) ∷ cs) (areas x) .1) .0
+      ≡ act m (query (read q o)) (acts m (update (open-reader q) ∷ ds) (areas y) .1) .0
+  readers-agree r q opens-x opens-y cs ds typed-x typed-y stays-x stays-y o low =
+      reads-as-opened x r opens-x cs typed-x stays-x o low
+      ∙ ap version (same-version o)
+      ∙ sym (reads-as-opened y q opens-y ds typed-y stays-y o (omega (arith, as-many)))

@@ -48,7 +48,8 @@ pub fn read(records: &[u8], l: Limits, reader: u32, object: u32) -> Reading
     }
     let first = layout::object_at(l, o) * 8;
     let end = first + layout::bounds_at(l) * 8;
-    let seen = versions::lookup(&records[first..end], cell - 1);
+    let since = cell - 1;
+    let seen = versions::lookup(&records[first..end], since);
     Reading::Version(seen.value, CommitTimestamp(seen.stamp as u32))
 }
 

@@ -103,6 +103,9 @@ mul-end c = omega (arith, c .bounds-at .ensures, entry (c .before .before .befor
 add-end : tie.Need-add-end
 add-end c = omega (arith, ends c)
 
+sub-since : tie.Need-sub-since
+sub-since c = search needs
+
 sub-lookup : tie.Need-sub-lookup
 sub-lookup c = search needs
 
@@ -111,9 +114,6 @@ part-lookup-start c = search needs
 
 part-lookup-end : tie.Need-part-lookup-end
 part-lookup-end c = omega (arith, ends c)
-
-sub-lookup-2 : tie.Need-sub-lookup-2
-sub-lookup-2 c = search needs
 
 lookup-requires : tie.Need-lookup-requires
 lookup-requires c κs =
@@ -126,8 +126,8 @@ lookup-requires c κs =
     let w : f .result * 8 + t .result * 8 - f .result * 8 ≡ versions-width (a .l) * 8 = omega (arith, t .ensures) in
     omega (arith, mid-len (f .result * 8) (f .result * 8 + t .result * 8) (a .records .now) (ends (c .before)), w, lent-count (e .args .l) (e .pre .0 .sane) (e .args .records .now) (p .replica) (p .holds) (a .object) (omega (arith, objects g (p .replica) (p .holds))) (f .result) _ (f .ensures .exact) w)
 
-cast-t18 : tie.Need-cast-t18
-cast-t18 c =
+cast-t19 : tie.Need-cast-t19
+cast-t19 c =
     let g = c .before .before .before .before .before .before in
     let e = entry g in
     let a = e .args in
@@ -168,10 +168,10 @@ read-spec =
     bounds-at-requires
     mul-end
     add-end
+    sub-since
     sub-lookup
     part-lookup-start
     part-lookup-end
-    sub-lookup-2
     lookup-requires
-    cast-t18
+    cast-t19
     returns-4)
