@@ -54,7 +54,8 @@ pub fn allows(area: &[u8], lower: usize, value: i64) -> bool
 // Lays a write set over a table, the last entry first, so that the first entry of an object counts.
 pub fn overlay<'a>(table: &mut [i64], wo: &'a [usize; 16], wv: &'a [i64; 16], count: usize)
     requires { ⌜ (count ≤ capacity) × (every (sound (object-count (now table))) (entries count (now wo) (now wv)) ≡ true) ⌝ }
-    ensures table { λ _. ⌜ ((b : Beside) → table-of (now (table .exit)) b ≡ over (entries count (now (wo .entry)) (now (wv .entry))) (table-of (now (table .entry)) b)) ⌝ }
+    ensures table { λ _. ⌜ ((b : Beside) → table-of (now (table .exit)) b
+        ≡ over (entries count (now (wo .entry)) (now (wv .entry))) (table-of (now (table .entry)) b)) ⌝ }
     ensures size { λ _. ⌜ object-count (now (table .exit)) ≡ object-count (now (table .entry)) ⌝ }
 {
     let mut i = count;

@@ -81,7 +81,8 @@ pub fn load_row(
 pub fn overlay_writes(row: &[u8], table: &mut [i64])
     requires { ⌜ Readable (now row) ⌝ }
     requires { ⌜ every (sound (object-count (now table))) (run-in (cells (now row)) .writes) ≡ true ⌝ }
-    ensures table { λ _. ⌜ ((b : Beside) → table-of (now (table .exit)) b ≡ over (run-in (cells (now (row .entry))) .writes) (table-of (now (table .entry)) b)) ⌝ }
+    ensures table { λ _. ⌜ ((b : Beside) → table-of (now (table .exit)) b
+        ≡ over (run-in (cells (now (row .entry))) .writes) (table-of (now (table .entry)) b)) ⌝ }
     ensures size { λ _. ⌜ object-count (now (table .exit)) ≡ object-count (now (table .entry)) ⌝ }
 {
     let reads = cells::get(row, layout::ROW_READS) as usize;
