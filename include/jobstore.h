@@ -29,7 +29,7 @@
 #include <stddef.h>
 #include <stdint.h>
 
-#define JOBSTORE_VERSION "0.3.0"
+#define JOBSTORE_VERSION "0.4.0"
 
 #ifdef __cplusplus
 extern "C" {
