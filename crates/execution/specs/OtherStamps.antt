@@ -8,7 +8,7 @@ use lib.ListN.{length}
 use Rattle.arith.specs.Integer.{eq-z}
 use Rattle.operation.specs.declared.Operation.{Operation}
 use Rattle.execution.specs.Entries.{Entry}
-use Rattle.execution.specs.Run.{Table, Move, get, put, go, halt, move, Run, start, apply, due, ended, obey, step, steps, whole, counted, matches, over}
+use Rattle.execution.specs.Run.{Table, Move, get, put, go, halt, move, Run, start, apply, due, ended, obey, step, steps, whole, counted, matches}
 
 -- the table with other stamps
 abbrev pub stamped : (ℕ → ℕ) → Table → Table
@@ -48,6 +48,3 @@ module _ (s : ℕ → ℕ) (T : Table) where
   pub matches-stamped : (l : List Entry) → matches (stamped s T) l ≡ matches T l
   matches-stamped [] = refl
   matches-stamped (e ∷ l) = ap (λ (t : Bool). eq-z (T .look (e .object)) (e .value) && t) (matches-stamped l)
-
-  pub over-stamped : (l : List Entry) → over l (stamped s T) ≡ stamped s (over l T)
-  over-stamped l = refl

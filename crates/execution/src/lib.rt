@@ -1,9 +1,8 @@
 // How far a run of a transaction's body has come, what its sets say beside a table (document 01, "A job's body"), and what stands beside the values of
 // a lent one. The definitions and laws of runs are in specs/. Registers and both sets stand in lent arrays; four counts go by value.
 ghost use mathlib.Core.Path.{_≡_};
-ghost use mathlib.Core.Bool.{Bool, true};
-ghost use Prim.Native.Nat.{ℕ, _+_, _*_, _<_, _≤_};
-ghost use lib.IntN.{ℤ};
+ghost use mathlib.Core.Bool.{true};
+ghost use Prim.Native.Nat.{_+_, _*_, _<_, _≤_};
 ghost use lib.ListN.{length};
 ghost use Rattle.cells.specs.Cells.{cells};
 ghost use Rattle.operation.specs.Body.{operations};

@@ -114,8 +114,8 @@ module _ {l : Limits} {b body : List ℕ} (s : Sane l) (m : Local l) (p : Rerunn
   rerun-laid =
       record { whole = holds-long l s b (p .replica) (p .holds); few = omega (arith, get-size l s b (p .replica) (p .holds), p .holds .fits .objects .0); room = m .objects }
 
-  pub rerun-counted : rows.Counted l b
-  rerun-counted = rows.counted l s b (p .replica) (p .holds)
+  pub rerun-counted : rows.CountsWithin l b
+  rerun-counted = rows.counts-within l s b (p .replica) (p .holds)
 
   -- the values of the first n objects, as they were gathered
   module _ {n : ℕ} {vs : List ℤ} (e : rows.Committed l b n vs) where

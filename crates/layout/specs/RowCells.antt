@@ -61,10 +61,10 @@ block-value l vs j h d =
     let e : value-at j ≡ suc (1 + j * 2) = omega arith in
     rw e (flat-value vs (blank (2 * (suc (l .readers) - length vs))) j h d)
 
-pub block-newest : (l : Limits) (vs : List Version) → 0 < length vs → getD (layout.versions l .enc vs) (stamp-at 0) 0 ≡ newest vs .stamp
+pub block-newest-stamp : (l : Limits) (vs : List Version) → 0 < length vs → getD (layout.versions l .enc vs) (stamp-at 0) 0 ≡ newest vs .stamp
 unfolding versions.block versions.flat
-block-newest l [] h = absurd (not-suc-le-zero h)
-block-newest l (v ∷ vs) h = refl
+block-newest-stamp l [] h = absurd (not-suc-le-zero h)
+block-newest-stamp l (v ∷ vs) h = refl
 
 -- ---- a row
 

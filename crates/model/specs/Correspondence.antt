@@ -6,7 +6,6 @@ use mathlib.Core.Option.{Option, none, some, Option·getD, Option·map}
 use mathlib.Core.List.{List, [], _∷_, map, map-append, map-map, map-id}
 use Prim.Native.Nat.{ℕ, zero, suc, _<_}
 use native.Mathlib.Omega.{arith}
-use lib.IntN.{ℤ}
 use lib.ListN.{length, getD, set, length-map, List·getD-map}
 use Rattle.operation.specs.Body.{listed, operations}
 use Rattle.operation.specs.BodyLaws.{valid-drop}

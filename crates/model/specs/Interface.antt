@@ -38,7 +38,7 @@ pub record Committed : Type 0 where
   pub timestamp : ℕ  -- the new commit timestamp
   pub stored : ℕ  -- how many objects were stored
 
--- a version: a value with the commit timestamp of its store
+-- a version: a value with the commit timestamp of its store, or the start timestamp
 pub record Version : Type 0 where
   pub stamp : ℕ
   pub value : ℤ

@@ -18,6 +18,7 @@ pub mod Correspondence
 pub mod Serializability
 pub mod Replicas
 pub mod ReaderSnapshots
+pub mod Untouched
 pub mod EarlyRecord
 pub mod Work
 pub mod Validation

@@ -1,9 +1,9 @@
--- The stamps of a table are carried beside its values alone: with any others, work, validation and the walk after a commit come to the same. Assumes nothing.
+-- Nothing computed on a table depends on its stamps: with any others, work, validation and the walk after a commit come to the same. Assumes nothing.
 use mathlib.Core.Path.{_≡_, refl, ap, ap₂, _∙_}
 use mathlib.Core.Bool.{Bool, cond, _&&_}
 use mathlib.Core.List.{List, [], _∷_, map}
 use Prim.Native.Nat.{ℕ, _+_, _-_}
-use Rattle.execution.specs.Run.{Table, Run, whole, matches, over}
+use Rattle.execution.specs.Run.{Table, Run, over}
 use Rattle.execution.specs.OtherStamps.{stamped, steps-stamped, whole-stamped, counted-stamped, matches-stamped}
 use Rattle.model.specs.Replica.{Pending, program, finished, advance, used, worked, work-count, restarted, walk, validated, result}
 

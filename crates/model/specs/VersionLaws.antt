@@ -100,9 +100,14 @@ module _ (t : ℕ) (rs : List ℕ) (writes : List Entry) (objs : List (List Vers
 abbrev pub Until : ℕ → List Version → Type 0
 Until t vs = newest vs .stamp ≤ t
 
+pub none-later : (t : ℕ) (vs : List Version) → all (λ v. leb (v .stamp) t) vs ≡ true → All (λ (v : Version). v .stamp ≤ t) vs
+none-later t [] h = tt
+none-later t (v ∷ vs) h =
+    let k = both (leb (v .stamp) t) (all (λ v. leb (v .stamp) t) vs) h in (leb-true (v .stamp) t (k .0), none-later t vs (k .1))
+
 pub newest-until : (t : ℕ) (vs : List Version) → all (λ v. leb (v .stamp) t) vs ≡ true → Until t vs
 newest-until t [] h = omega arith
-newest-until t (v ∷ vs) h = leb-true (v .stamp) t (both (leb (v .stamp) t) (all (λ v. leb (v .stamp) t) vs) h .0)
+newest-until t (v ∷ vs) h = none-later t (v ∷ vs) h .0
 
 pub until-prune : (rs : List ℕ) (t : ℕ) (objs : List (List Version)) → All (Until t) objs → All (Until t) (map (prune rs) objs)
 until-prune rs t [] h = tt

@@ -79,7 +79,7 @@ pub fn open_reader(records: &mut [u8], bodies: &[u8], reader: u32) -> Reply
     replica_calls::open_reader(records, bodies, STANDARD, shaped, reader)
 }
 
-// Read: an object's value as of the reader's timestamp.
+// Read: the version of an object that the reader sees, value and stamp.
 pub fn read(records: &[u8], bodies: &[u8], reader: u32, object: u32) -> Reading
     ensures { λ r. ⌜ Met standard (read-call reader object) (now (records .entry), now (bodies .entry))
         (reading r) (now (records .entry), now (bodies .entry)) ⌝ }

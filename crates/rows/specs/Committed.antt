@@ -25,19 +25,15 @@ use Rattle.model.specs.Replica.{Replica, newest, as-of, opens, committed-table}
 use Rattle.model.specs.Shape.{VersionsShape, Shape}
 use Rattle.model.specs.ListLaws.{All, all-in, all-implies}
 use Rattle.model.specs.VersionLaws.{Until, as-of-now, newest-until}
-use Rattle.versions.specs.Block.{block-versions}
+use Rattle.versions.specs.Block.{seen-from}
 use Rattle.layout.specs.Offsets.{Sane, size-at, object-width, versions-width, object-at, stamp-at, lower-at, upper-at, record-length}
 use Rattle.layout.specs.Printable.{BoundsFit}
-use Rattle.layout.specs.RowCells.{block-newest}
+use Rattle.layout.specs.RowCells.{block-newest-stamp}
 use Rattle.layout.specs.Holds.{Holds, holds-long}
 use Rattle.layout.specs.Reading.{get-timestamp, get-size, get-object, get-lower, get-upper}
 use Rattle.layout.specs.LentBlock.{lent-object, lent-count}
 
--- what a lookup at timestamp t gives in a block of k bytes that is lent from byte f on
-abbrev pub seen-from : List ℕ → ℕ → ℕ → ℕ → Version
-seen-from b t k f = as-of t (block-versions (cells (midOf f k b)))
-
--- that of object i at the replica's own timestamp: "so does the lookup below it, which a load from the committed table uses from now on"
+-- what the lookup gives of object i at the replica's own timestamp: "so does the lookup below it, which a load from the committed table uses from now on"
 abbrev pub looked-up : Limits → List ℕ → ℕ → Version
 looked-up l b i = seen-from b (getD (cells b) 0 0) (versions-width l * 8) (object-at l i * 8)
 
@@ -52,8 +48,8 @@ pub record Laid (l : Limits) (b : List ℕ) : Type 0 where
   pub room : l .objects ≤ 128
 
 -- no object counts more versions than its block has room for
-abbrev pub Counted : Limits → List ℕ → Type 0
-Counted l b =
+abbrev pub CountsWithin : Limits → List ℕ → Type 0
+CountsWithin l b =
     (o : ℕ) → o < getD (cells b) (size-at l) 0 → getD (cells (midOf (object-at l o * 8) (versions-width l * 8) b)) 0 0 ≤ l .readers + 1
 
 -- n is the number of objects, and the first n values are those that the lookup gives
@@ -63,12 +59,17 @@ pub record Committed (l : Limits) (b : List ℕ) (n : ℕ) (vs : List ℤ) : Typ
   pub room : length vs ≡ 128
   pub values : (o : ℕ) → o < n → value-of vs o ≡ looked-up l b o .value
 
--- each object has a version, and none is later than the timestamp
+-- an object has a version, and the newest is not later than t
+abbrev Versioned : ℕ → List Version → Type 0
+Versioned t vs = (0 < length vs) × Until t vs
+
+-- so have all of a replica at its timestamp
 abbrev pub Current : Replica → Type 0
-Current u = All (λ (vs : List Version). (0 < length vs) × Until (u .timestamp) vs) (u .objects)
+Current u = All (Versioned (u .timestamp)) (u .objects)
 
 pub current : {l : Limits} (u : Replica) → Shape l u → Current u
-current u h = all-implies (VersionsShape (u .timestamp) (opens (u .readers))) _ (λ vs k. (k .least, newest-until (u .timestamp) vs (k .bound))) (u .objects) (h .versions)
+current u h =
+    all-implies (VersionsShape (u .timestamp) (opens (u .readers))) (Versioned (u .timestamp)) (λ vs k. (k .least, newest-until (u .timestamp) vs (k .bound))) (u .objects) (h .versions)
 
 -- ---- offsets
 
@@ -122,23 +123,26 @@ module _ (l : Limits) (s : Sane l) (b : List ℕ) (u : Replica) (h : Holds l b u
       let m : o < l .objects = omega (arith, h .fits .objects .0) in
       omega (arith, bounds-along l o, object-cell-inside l o (upper-at l) m (omega arith), holds-long l s b u h)
 
-  pub counted : Counted l b
-  counted o k = lent-count l s b u h o (omega (arith, get-size l s b u h)) (object-at l o) (versions-width l * 8) refl refl
+  pub counts-within : CountsWithin l b
+  counts-within o k = lent-count l s b u h o (omega (arith, get-size l s b u h)) (object-at l o) (versions-width l * 8) refl refl
 
-  module _ (now : Current u) where
+  module _ (latest : Current u) where
+    versioned : (i : ℕ) → i < length (u .objects) → Versioned (u .timestamp) (getD (u .objects) i [])
+    versioned i k = all-in (Versioned (u .timestamp)) (u .objects) i [] latest k
+
     -- the lookup gives the newest version
     pub looked-back : (i : ℕ) → i < length (u .objects) → looked-up l b i ≡ newest (getD (u .objects) i [])
     looked-back i k =
         let vs = getD (u .objects) i [] in
         ap₂ as-of (get-timestamp l s b u h) (lent-object l s b u h i k (object-at l i) (versions-width l * 8) refl refl)
-        ∙ as-of-now (u .timestamp) vs (all-in (λ (vs : List Version). (0 < length vs) × Until (u .timestamp) vs) (u .objects) i [] now k .1)
+        ∙ as-of-now (u .timestamp) vs (versioned i k .1)
 
-    -- so does the stamp where it stands
+    -- the stamp where it stands is the newest version's
     stamp-back : (i : ℕ) → i < length (u .objects) → getD (cells b) (stamp-cell (objects-place l) i) 0 ≡ newest (getD (u .objects) i []) .stamp
     stamp-back i k =
         ap (λ (a : ℕ). getD (cells b) a 0) (stamp-along l i)
         ∙ get-object l s b u h i k (stamp-at 0) (omega arith)
-        ∙ block-newest l (getD (u .objects) i []) (all-in (λ (vs : List Version). (0 < length vs) × Until (u .timestamp) vs) (u .objects) i [] now k .0)
+        ∙ block-newest-stamp l (getD (u .objects) i []) (versioned i k .0)
 
     -- a run's table has the stamps that the lookup gives beside its values
     pub stamp-looked-up : (i : ℕ) → i < length (u .objects) → getD (cells b) (stamp-cell (objects-place l) i) 0 ≡ looked-up l b i .stamp

@@ -4,10 +4,9 @@ use execution::Counts;
 use execution::ObjectsAt;
 use model::Limits;
 ghost use mathlib.Core.Path.{_≡_};
-ghost use mathlib.Core.Bool.{Bool, true};
+ghost use mathlib.Core.Bool.{true};
 ghost use mathlib.Core.List.{map};
-ghost use Prim.Native.Nat.{ℕ, _+_, _*_, _≤_};
-ghost use lib.IntN.{ℤ};
+ghost use Prim.Native.Nat.{_+_, _*_, _≤_};
 ghost use lib.ListN.{length};
 ghost use mir.Syntax.{w64};
 ghost use mir.Val.{ofZ};
@@ -18,7 +17,7 @@ ghost use Rattle.execution.specs.RunShape.{every, sound};
 ghost use Rattle.execution.specs.Arrays.{capacity, entries, Room};
 ghost use Rattle.layout.specs.Offsets.{Sane, register-at, reads-at, entry-at};
 ghost use Rattle.rows.specs.RowRun.{entries-in, registers-in, run-in, Readable, Loaded, front, entry-cells, Behind, Storable, Stored};
-ghost use Rattle.rows.specs.Committed.{Laid, Counted, Committed, objects-place};
+ghost use Rattle.rows.specs.Committed.{Laid, CountsWithin, Committed, objects-place};
 
 // The registers of a row. The loop fills the array: the places passed have their cells' values.
 fn load_registers(row: &[u8], registers: &mut [i64; 4])
@@ -99,7 +98,7 @@ pub fn overlay_writes(row: &[u8], table: &mut [i64])
 // The committed state: of each object the value that a reader opened now would see, by the lookup that readers use; the objects passed have theirs.
 // The number of objects. Their stamps are not gathered: they stand in the record area, which is lent beside the values.
 pub fn committed_values(records: &[u8], l: Limits, table: &mut [i64; 128]) -> usize
-    requires { ⌜ Sane l × Laid l (now records) × Counted l (now records) × (length (now table) ≡ 128) ⌝ }
+    requires { ⌜ Sane l × Laid l (now records) × CountsWithin l (now records) × (length (now table) ≡ 128) ⌝ }
     ensures { λ n. ⌜ Committed l (now (records .entry)) n (now (table .exit)) ⌝ }
 {
     let n = cells::get(records, layout::size_at(l)) as usize;

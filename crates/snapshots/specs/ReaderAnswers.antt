@@ -8,27 +8,26 @@ use Prim.Native.Nat.{ℕ, zero, suc, _+_, _-_, _*_, _≤_, _<_, _^_}
 use native.Mathlib.Omega.{arith}
 use lib.Dec.{eqb, leb}
 use lib.ListN.{length, getD, set, List·getD-map}
-use borrow.Author.Tests.{le-leb, leb-true, lt-leb}
+use borrow.Author.Tests.{le-leb, lt-leb}
 use borrow.Rule.Slice.PartMut.{midOf}
 use Rattle.cells.specs.Cells.{cells, Put}
-use Rattle.execution.specs.ReadAgreement.{both}
 use Rattle.model.specs.declared.Limits.{Limits}
 use Rattle.model.specs.Calls.{Call, Query, Yield, open-reader, read, close-reader, Answer, refused, yielded, done, version, causes, refusal, judged, last-timestamp}
 use Rattle.model.specs.Serial.{Version, is-some}
-use Rattle.model.specs.Lists.{any, all}
+use Rattle.model.specs.Lists.{any}
 use Rattle.model.specs.Held.{open-shape}
 use Rattle.model.specs.Replica.{Replica, opens, as-of, view, facts, perform, call}
 use Rattle.model.specs.Queries.{query-same}
 use Rattle.model.specs.Shape.{Shape, VersionsShape}
 use Rattle.model.specs.ListLaws.{All, all-in, all-implies}
-use Rattle.model.specs.VersionLaws.{as-of-one}
+use Rattle.model.specs.VersionLaws.{none-later, as-of-one}
 use Rattle.layout.specs.Layout.{of-reader, body-of}
 use Rattle.layout.specs.Offsets.{Sane, reader-at, versions-width, object-at}
 use Rattle.layout.specs.Holds.{Holds, with-readers}
 use Rattle.layout.specs.Reading.{get-timestamp, get-reader}
 use Rattle.layout.specs.Writing.{put-reader}
 use Rattle.layout.specs.Printable.{ReaderFits}
-use Rattle.versions.specs.Block.{block-versions}
+use Rattle.versions.specs.Block.{seen-from}
 use Rattle.layout.specs.LentBlock.{lent-object}
 use Rattle.layout.specs.Contract.{Answered}
 use Rattle.snapshots.specs.ClosePruning.{Pruned}
@@ -127,14 +126,9 @@ module _ (l : Limits) (u : Replica) (r : ℕ) where
   unfolding refusal causes facts
   close-refusal = rw by-reader
 
-none-later : (t : ℕ) (vs : List Version) → all (λ v. leb (v .stamp) t) vs ≡ true → All (λ (v : Version). v .stamp ≤ t) vs
-none-later t [] h = tt
-none-later t (v ∷ vs) h =
-    let k = both (leb (v .stamp) t) (all (λ v. leb (v .stamp) t) vs) h in (leb-true (v .stamp) t (k .0), none-later t vs (k .1))
-
 -- the stamp of what is seen in object o's block is one of the replica's, so that 32 bits hold it
 pub seen-small : (l : Limits) (s : Sane l) (b : List ℕ) (u : Replica) → Holds l b u → Shape l u → (o : ℕ) → o < length (u .objects) → (a k : ℕ) → a ≡ object-at l o → k ≡ versions-width l * 8
-    → (t : ℕ) → as-of t (block-versions (cells (midOf (a * 8) k b))) .stamp < 2 ^ 32
+    → (t : ℕ) → seen-from b t k (a * 8) .stamp < 2 ^ 32
 unfolding last-timestamp
 seen-small l s b u h g o q a k ea ek t =
     let shaped = all-in (VersionsShape (u .timestamp) (opens (u .readers))) (u .objects) o [] (g .versions) q in
@@ -179,12 +173,12 @@ module _ (l : Limits) (s : Sane l) (b : List ℕ) (u : Replica) (h : Holds l b u
           turned-back l (read r o) u b 12 (read-refusal l u r o ∙ rw (lt-leb (l .readers) r low, opened, le-leb (length (u .objects)) o k)) h
 
       -- object o's block is lent: k bytes from cell a on
-      pub read-done : (o : ℕ) → o < length (u .objects) → (a k : ℕ) → a ≡ object-at l o → k ≡ versions-width l * 8 → (v : Version) → v ≡ as-of (x - 1) (block-versions (cells (midOf (a * 8) k b))) → Answered l (read r o) u b (version v)
+      pub read-done : (o : ℕ) → o < length (u .objects) → (a k : ℕ) → a ≡ object-at l o → k ≡ versions-width l * 8 → (v : Version) → v ≡ seen-from b (x - 1) k (a * 8) → Answered l (read r o) u b (version v)
       unfolding perform
       read-done o q a k ea ek v ev =
           let vs = getD (u .objects) o [] in
           let y = getD (u .readers) r none in
-          let same : as-of (x - 1) (block-versions (cells (midOf (a * 8) k b))) ≡ view y vs =
+          let same : seen-from b (x - 1) k (a * 8) ≡ view y vs =
           ap (as-of (x - 1)) (lent-object l s b u h o q a k ea ek) ∙ ap (λ (t : ℕ). as-of (t - 1) vs) (e ∙ was) ∙ seen y vs (omega (arith, was)) in
           done-by l (read r o) u b (read-refusal l u r o ∙ rw (lt-leb (l .readers) r low, opened, lt-leb (length (u .objects)) o q)) (version v)
           (ap version (ev ∙ same)) h

@@ -1,31 +1,30 @@
 -- The objects' blocks of a record area, lent to be pruned. Assumes nothing.
 use mathlib.Core.Path.{_≡_, refl, sym, ap, ap₂, _∙_}
 use mathlib.Core.List.{List, [], _∷_, _++_, map, append-nil}
-use Prim.Native.Nat.{ℕ, suc, _+_, _*_, _^_, _≤_, _<_, _-_}
+use Prim.Native.Nat.{ℕ, suc, _+_, _*_, _^_, _<_, _-_}
 use native.Mathlib.Omega.{arith}
 use lib.ListN.{length, take, drop, getD, length-map, drop-of-length-le}
-use lib.Seq.{take-at, drop-at, take-all}
+use lib.Seq.{take-all}
 use borrow.Rule.Slice.PartMut.{midOf, putMid}
-use Rattle.cells.specs.Cells.{cells, uncells, Below}
+use Rattle.cells.specs.Cells.{cells, uncells}
 use Rattle.cells.specs.Uncells.{length-uncells, uncells-append}
 use Rattle.execution.specs.Bounds.{Bounds, no-bounds}
 use Rattle.model.specs.declared.Limits.{Limits}
 use Rattle.model.specs.Serial.{Version}
 use Rattle.model.specs.Replica.{Replica, opens, held, prune}
 use Rattle.model.specs.Shape.{VersionsShape}
-use Rattle.model.specs.ListLaws.{All, all-keep, all-implies, all-mapped, all-in, length-keep}
+use Rattle.model.specs.ListLaws.{All, all-keep, all-implies, all-mapped, length-keep}
 use Rattle.layout.specs.Rows.{flat}
 use Rattle.layout.specs.Codec.{bytewise}
 use Rattle.layout.specs.Layout.{of-reader, Stored, object, stored-from, stored-of}
-use Rattle.layout.specs.Offsets.{Sane, reader-at, object-width, versions-width, object-at, size-at}
+use Rattle.layout.specs.Offsets.{Sane, reader-at, object-width, object-at, size-at}
 use Rattle.layout.specs.Printable.{VersionFits, ObjectFits, StoredFits, length-stored, stored-fit, fits-small}
 use Rattle.layout.specs.RoundTrips.{versions-back}
 use Rattle.layout.specs.Holds.{Holds}
-use Rattle.layout.specs.Reading.{object-part, objects-part, readers-part}
+use Rattle.layout.specs.Reading.{objects-part, readers-part}
 use Rattle.layout.specs.Writing.{write-objects}
 use Rattle.layout.specs.ObjectBlock.{readers-stamps}
-use Rattle.versions.specs.Block.{block-versions, stamps}
-use Rattle.versions.specs.Round.{length-block-versions, parsed}
+use Rattle.versions.specs.Block.{stamps}
 use Rattle.versions_close.specs.Closing as closing
 use Rattle.versions_close.specs.Closing.{AllChecked}
 use Rattle.versions_close.specs.Laid.{laid, pruned-object, Fitting, laid-checked, laid-pruned}
@@ -52,9 +51,6 @@ prune-fits n rs vs g = (omega (arith, length-keep (held rs vs) vs, g .0), all-ke
 -- ---- in the area
 
 module _ (l : Limits) (s : Sane l) (b : List ℕ) (u : Replica) (h : Holds l b u) where
-  fits : (i : ℕ) → i < length (u .objects) → ObjectFits (l .readers) (getD (u .objects) i [])
-  fits i k = all-in (ObjectFits (l .readers)) (u .objects) i [] (h .fits .objects .1) k
-
   -- the readers' cells, from cell f up to cell t, copied over all of old
   pub copied-readers : (f t : ℕ) → f ≡ reader-at 0 → t ≡ size-at l → (old rs : List ℕ) → length old ≡ l .readers * 8
       → (let src = midOf (f * 8) (t * 8 - f * 8) b in rs ≡ take (length src) src ++ drop (length src) old) → stamps (cells rs) ≡ opens (u .readers)

@@ -5,19 +5,18 @@ use mathlib.Core.List.{List, [], _∷_, map}
 use Prim.Native.Nat.{ℕ, _+_, _-_, _≤_, _<_}
 use native.Mathlib.Omega.{arith}
 use lib.IntN.{ℤ}
-use lib.ListN.{length, take}
+use lib.ListN.{take}
 use borrow.Author.Tests.{lt-ltb}
-use Rattle.cells.specs.Cells.{cells, Below}
+use Rattle.cells.specs.Cells.{Below}
 use Rattle.execution.specs.Run.{Table, over}
 use Rattle.execution.specs.Arrays.{capacity}
 use Rattle.model.specs.declared.Limits.{Limits}
 use Rattle.model.specs.Lists.{count}
 use Rattle.model.specs.Calls.{Transaction, execute, executed, refused, refusal, causes, most-work}
-use Rattle.model.specs.Serial.{Version}
-use Rattle.model.specs.Replica.{Pending, Replica, opens, committed-table, program, finished, advance, used, work-count, perform}
-use Rattle.model.specs.ListLaws.{All, all-implies, count-few}
+use Rattle.model.specs.Replica.{Pending, Replica, committed-table, program, finished, advance, used, work-count, perform}
+use Rattle.model.specs.ListLaws.{count-few}
 use Rattle.model.specs.EarlyResults.{sents, worked-sents}
-use Rattle.model.specs.Shape.{VersionsShape, Shape}
+use Rattle.model.specs.Shape.{Shape}
 use Rattle.model.specs.ShapeParts.{same-length}
 use Rattle.layout.specs.Layout.{body-of, parse, print}
 use Rattle.layout.specs.Offsets.{Sane}
@@ -27,7 +26,7 @@ use Rattle.layout.specs.Bodies.{same-bodies}
 use Rattle.layout.specs.Fit.{fit, shape-fits, fit-holds, fit-bodies, fit-shape}
 use Rattle.layout.specs.Act.{act}
 use Rattle.layout.specs.Areas.{act-refused, act-accepted}
-use Rattle.rows.specs.Committed.{Laid, Counted, Committed, current, counted, committed-count, committed-back}
+use Rattle.rows.specs.Committed.{Laid, CountsWithin, Committed, current, counts-within, committed-count, committed-back}
 use Rattle.speculative_execution.specs.Passing.{counted-most, all-worked, after-work, Worked, accepted, new-shape}
 use Rattle.speculative_execution.specs.LentAreas.{Begun}
 
@@ -87,8 +86,8 @@ module _ {l : Limits} {records bodies : List ℕ} (k : Asked l records bodies) (
   pub readable : Laid l records
   readable = record { whole = holds-long l s records u holds; few = omega (arith, get-size l s records u holds, shape .few-objects); room = k .objects }
 
-  pub counted-blocks : Counted l records
-  counted-blocks = counted l s records u holds
+  pub counted-blocks : CountsWithin l records
+  counted-blocks = counts-within l s records u holds
 
   -- the committed table, as the local array has it, is the first one
   module _ {n : ℕ} {vs : List ℤ} (v : Committed l records n vs) (c : ℕ) (low : c ≤ most-work) where

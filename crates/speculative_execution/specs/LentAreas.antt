@@ -30,7 +30,7 @@ use Rattle.rows.specs.Committed.{current, objects-place, beside-back, bounds-wi
 use Rattle.speculative_turn.specs.declared.Advanced.{Advanced}
 use Rattle.speculative_turn.specs.Advance.{Ready, Leaves}
 use Rattle.speculative_turn.specs.AreaRow.{beside-in, ReadyAt, LeavesAt}
-use Rattle.speculative_execution.specs.Passing.{nobody, formed-at, bounded-by, Going, Worked, going-first, going-last, lent-row, turn-ready, turn-most, turn-next, turn-last}
+use Rattle.speculative_execution.specs.Passing.{nobody, formed-at, committed-with, Going, Worked, going-first, going-last, lent-row, turn-ready, turn-most, turn-next, turn-last}
 
 -- areas that passed the shape check, beside the committed table and a budget
 pub record Begun (l : Limits) (records bodies : List ℕ) (vs : List ℤ) (budget : ℕ) : Type 0 where
@@ -38,7 +38,7 @@ pub record Begun (l : Limits) (records bodies : List ℕ) (vs : List ℤ) (budge
   pub few : l .operations ≤ capacity
   pub fit : fit l (records, bodies) ≡ true
   pub allowed : budget ≤ most-work
-  pub table : bounded-by (parse l (records, bodies)) vs ≡ committed-table (parse l (records, bodies))
+  pub table : committed-with (parse l (records, bodies)) vs ≡ committed-table (parse l (records, bodies))
   pub size : object-count vs ≡ length (parse l (records, bodies) .objects)
 
 module _ {l : Limits} (s : Sane l) (records bodies : List ℕ) (f : fit l (records, bodies) ≡ true) where
@@ -122,12 +122,12 @@ module _ {l : Limits} {records bodies : List ℕ} {vs : List ℤ} {budget : ℕ}
             order = omega (arith, er, ee);
             inside = inside;
             bounded = subst (λ (n : ℕ). BoundsWithin p n (length here)) (sym (k .size)) (subst (λ (q : ObjectsAt). BoundsWithin q (length (u₀ .objects)) (length here)) (sym ep) (bounds-within l (g .sane) here _ (k .holds)));
-            ready = subst (λ (A : Beside). Ready row-bytes body-bytes ts A left) (sym (beside-here ep)) (turn-ready (g .sane) (g .few) shape budget (g .allowed) k h is-row is-body);
+            ready = subst (λ (rest : Beside). Ready row-bytes body-bytes ts rest left) (sym (beside-here ep)) (turn-ready (g .sane) (g .few) shape budget (g .allowed) k h is-row is-body);
           }
 
       module _ {p : ObjectsAt} (ep : p ≡ objects-place l) {a : Advanced} {zs : List ℕ} {ws : List ℤ} (at-area : LeavesAt here p (r * 8) (e * 8) body-bytes ts left a zs ws) where
         lv : Leaves row-bytes body-bytes ts (beside (committed-table u₀)) left a (at-area .new-row) ws
-        lv = subst (λ (A : Beside). Leaves row-bytes body-bytes ts A left a (at-area .new-row) ws) (beside-here ep) (at-area .leaves)
+        lv = subst (λ (rest : Beside). Leaves row-bytes body-bytes ts rest left a (at-area .new-row) ws) (beside-here ep) (at-area .leaves)
 
         is-back : zs ≡ putMid (row-at l i * 8) (row-width l * 8) here (at-area .new-row)
         is-back = at-area .back ∙ ap₂ (λ (x y : ℕ). putMid (x * 8) y here (at-area .new-row)) er width

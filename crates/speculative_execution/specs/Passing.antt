@@ -145,16 +145,16 @@ abbrev pub after-work : Replica → ℕ → Replica
 after-work u c = with-pending (all-worked u c) u
 
 -- values as a table with the committed stamps and bounds, which work does not change
-abbrev pub bounded-by : Replica → List ℤ → Table
-bounded-by u vs = table-of vs (beside (committed-table u))
+abbrev pub committed-with : Replica → List ℤ → Table
+committed-with u vs = table-of vs (beside (committed-table u))
 
 -- before turn i: the first i transactions are worked on, finished, and their writes are over the table; `left` operations of c are left
 pub record Going (l : Limits) (u : Replica) (c : ℕ) (records : List ℕ) (vs : List ℤ) (i left : ℕ) : Type 0 where
   pub within : i ≤ length (u .pending)
   pub unspent : left ≤ c
   pub holds : Holds l records (with-pending (take i (all-worked u c) ++ drop i (u .pending)) u)
-  pub rest : worked (bounded-by u vs) left (drop i (u .pending)) ≡ drop i (all-worked u c)
-  pub counting : c - left + work-count (bounded-by u vs) left (drop i (u .pending)) ≡ all-counted u c
+  pub rest : worked (committed-with u vs) left (drop i (u .pending)) ≡ drop i (all-worked u c)
+  pub counting : c - left + work-count (committed-with u vs) left (drop i (u .pending)) ≡ all-counted u c
   pub size : object-count vs ≡ length (u .objects)
   pub done : count finished (take i (all-worked u c)) ≡ i
 
@@ -185,7 +185,7 @@ module _ {l : Limits} (s : Sane l) (few : l .operations ≤ capacity) {u : Repli
   unfolding call perform
   new-shape = let h = call-shape l u k (execute c) tt in rw accepted at h
 
-  pub going-first : {records : List ℕ} {vs : List ℤ} → Holds l records u → bounded-by u vs ≡ committed-table u → object-count vs ≡ length (u .objects) → Going l u c records vs 0 c
+  pub going-first : {records : List ℕ} {vs : List ℤ} → Holds l records u → committed-with u vs ≡ committed-table u → object-count vs ≡ length (u .objects) → Going l u c records vs 0 c
   going-first h t n =
       record {
         within = omega arith;
@@ -202,7 +202,7 @@ module _ {l : Limits} (s : Sane l) (few : l .operations ≤ capacity) {u : Repli
   going-last {records} {vs} {i} {left} g h =
       let a = drop-of-length-le js {i = i} h in
       let b = drop-of-length-le W {i = i} (omega (arith, same)) in
-      let z = ap (work-count (bounded-by u vs) left) a in
+      let z = ap (work-count (committed-with u vs) left) a in
       let t : take i W ≡ W = take-all i W (omega (arith, same)) in
       record {
         holds = subst (λ (x : List Pending). Holds l records (with-pending x u)) (place-all W js i same (b ∙ sym a)) (g .holds);
@@ -220,7 +220,7 @@ module _ {l : Limits} (s : Sane l) (few : l .operations ≤ capacity) {u : Repli
     w = getD W i nobody
 
     abbrev S : Table
-    S = bounded-by u vs
+    S = committed-with u vs
 
     reach : i < length W
     reach = omega (arith, same)
@@ -334,10 +334,10 @@ module _ {l : Limits} (s : Sane l) (few : l .operations ≤ capacity) {u : Repli
             → Going l u c zs ws (i + 1) (left - a .used)
         turn-next f e n =
             let t : finished w ≡ true = sym ends ∙ f in
-            let T : bounded-by u ws ≡ over (w .run .writes) S = lv .table ∙ ap₂ (λ (x : Bool) (p : Run). cond x (over (p .writes) S) S) (sym (lv .finished) ∙ f) is in
+            let T : committed-with u ws ≡ over (w .run .writes) S = lv .table ∙ ap₂ (λ (x : Bool) (p : Run). cond x (over (p .writes) S) S) (sym (lv .finished) ∙ f) is in
             let less : left - a .used ≡ left - used S left j = ap (λ (x : ℕ). left - x) taken in
             let one = add-one i in
-            let cnt : c - left + (a .used + work-count (bounded-by u ws) (left - a .used) (drop (suc i) js)) ≡ all-counted u c =
+            let cnt : c - left + (a .used + work-count (committed-with u ws) (left - a .used) (drop (suc i) js)) ≡ all-counted u c =
             ap₂ (λ (R : Table) (x : ℕ). c - left + (a .used + work-count R x (drop (suc i) js))) T less
             ∙ sym (ap (λ (x : Bool). c - left + (a .used + cond x (work-count (over (w .run .writes) S) (left - used S left j) (drop (suc i) js)) 0)) t) ∙ counted-here in
             let most = turn-most in

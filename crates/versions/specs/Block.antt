@@ -12,12 +12,14 @@ use lib.Dec.{leb, ltb}
 use lib.ListN.{length, getD, take, drop, replicate}
 use mir.Syntax.{w64}
 use mir.Val.{SFits, toZ, ofZ}
+use borrow.Rule.Slice.PartMut.{midOf}
+use Rattle.cells.specs.Cells.{cells}
 unfoldable pub use Rattle.cells.specs.Chunks.{chunks}
 use Rattle.cells.specs.Zeros.{zeros}
 use Rattle.execution.specs.Bounds.{Bounds, ordered}
 use Rattle.model.specs.Lists.{any, all}
 use Rattle.model.specs.Serial.{Version}
-use Rattle.model.specs.Replica.{opens}
+use Rattle.model.specs.Replica.{opens, as-of}
 use Rattle.model.specs.Shape.{versions-inside}
 use Rattle.model.specs.ShapeCheck.{versions-shaped}
 use Rattle.versions.specs.declared.Seen.{Seen}
@@ -136,6 +138,10 @@ trim rc upper (v ∷ vs) = cond (between rc (v .stamp) upper) (v ∷ trim rc (v 
 -- what a lookup yields
 abbrev pub version-seen : Seen → Version
 version-seen x = record { stamp = x .stamp; value = x .value }
+
+-- what a reader of stamp t sees in a block that is lent out of the bytes b: k bytes from byte f on
+abbrev pub seen-from : List ℕ → ℕ → ℕ → ℕ → Version
+seen-from b t k f = as-of t (block-versions (cells (midOf f k b)))
 
 -- the areas lent: the readers' cells and one block
 pub record Lent (n : ℕ) (rs bs : List ℕ) : Type 0 where

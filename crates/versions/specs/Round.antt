@@ -16,15 +16,14 @@ use borrow.Author.Tests.{le-leb, leb-true}
 use borrow.Rule.Slice.PartMut.{midOf}
 use Rattle.execution.specs.ReadAgreement.{both}
 use Rattle.cells.specs.Cells.{cells, uncells, Below}
-use Rattle.cells.specs.CellLaws.{below-drop, below-zeros, cells-below, cells-uncells}
+use Rattle.cells.specs.CellLaws.{below-drop, below-take, below-zeros, cells-below, cells-uncells}
 use Rattle.cells.specs.Zeros.{zeros, zeros-replicate, zeros-true}
 use Rattle.model.specs.Serial.{Version}
-use Rattle.model.specs.Replica.{as-of}
 use Rattle.model.specs.ListLaws.{All}
 use Rattle.model.specs.VersionLaws.{as-of-one}
 use Rattle.model.specs.Shape.{VersionsShape}
 use Rattle.model.specs.ShapeCheck.{versions-shaped, versions-say}
-use Rattle.versions.specs.Block.{width, versions-in, stamps, block-versions, flat, block, Small, framed, block-ok}
+use Rattle.versions.specs.Block.{width, versions-in, stamps, block-versions, flat, block, Small, seen-from, framed, block-ok}
 
 pub fit : {b : ℕ} → b < 2 ^ 64 → Fits w64 b
 fit h = record { fits = h }
@@ -72,18 +71,12 @@ pub small-block-versions : (bc : List ℕ) → Below (2 ^ 64) bc → Small (bloc
 unfolding block-versions
 small-block-versions bc h = small-versions (getD bc 0 0) (drop 1 bc) (below-drop (2 ^ 64) 1 bc h)
 
-below-take : (n k : ℕ) (xs : List ℕ) → 0 < n → Below n xs → Below n (take k xs)
-below-take n zero xs p h i = p
-below-take n (suc k) [] p h i = p
-below-take n (suc k) (x ∷ xs) p h zero = h 0
-below-take n (suc k) (x ∷ xs) p h (suc i) = below-take n k xs p (λ j. h (suc j)) i
-
--- what is seen in a block that is lent, as k bytes from byte f on, is a value of 64 bits
-pub seen-fits : (t f k : ℕ) (b : List ℕ) → Below 256 b → mag (as-of t (block-versions (cells (midOf f k b))) .value) < 2 ^ 63
+-- what is seen in a block that is lent has a value of 64 bits
+pub seen-fits : (t f k : ℕ) (b : List ℕ) → Below 256 b → mag (seen-from b t k f .value) < 2 ^ 63
 seen-fits t f k b h =
     let vs = block-versions (cells (midOf f k b)) in
     as-of-one (λ (v : Version). SFits w64 (v .value)) t vs (record { sfits = omega arith })
-    (values-fit vs (small-block-versions (cells (midOf f k b)) (cells-below (midOf f k b) (below-take 256 k (drop f b) (omega arith) (below-drop 256 f b h))))) .sfits
+    (values-fit vs (small-block-versions (cells (midOf f k b)) (cells-below (midOf f k b) (below-take 256 k (drop f b) (below-drop 256 f b h))))) .sfits
   where
     values-fit : (vs : List Version) → Small vs → All (λ (v : Version). SFits w64 (v .value)) vs
     values-fit [] g = tt

@@ -55,7 +55,7 @@ pub struct Seen {
 }
 
 // What a reader of this stamp sees: the newest version whose stamp is not above it. Goes from the newest version down, k being the cell of the next
-// one's stamp; zeros where all are above, which no block that passed the shape check has.
+// one's stamp; zeros where all are above, which no block that passed the shape check has for an open reader's stamp or the replica's own.
 pub fn lookup(block: &[u8], stamp: u64) -> Seen
     requires { ⌜ (1 + 2 * getD (cells (now block)) 0 0) * 8 ≤ length (now block) ⌝ }
     ensures { λ r. ⌜ version-seen r ≡ as-of stamp (block-versions (cells (now (block .entry)))) ⌝ }

@@ -1,6 +1,8 @@
 //! The ten cases of "A small depot", bounds, stamps beside values, and each refusal.
 
-use jobstore::{Body, Bounds, Committed, Executed, Found, Outcome, Refusal, Replica, BODIES_LENGTH, RECORD_LENGTH};
+use jobstore::{
+    Body, Bounds, Committed, Executed, Found, Outcome, Reading, Refusal, Replica, BODIES_LENGTH, RECORD_LENGTH,
+};
 
 fn add_5() -> Body {
     Body::new().load(0, 0).set(1, 5).add(0, 1).store(0, 0)
@@ -90,11 +92,11 @@ fn case_5_a_reader_sees_the_table_of_its_opening() -> Result<(), Refusal> {
     let mut replica = worked()?;
     replica.open_reader(0)?;
     replica.deliver_final((1, 1))?;
-    assert_eq!(replica.read(0, 0)?.value, 10);
+    assert_eq!(seen(&replica, 0, 0)?, (10, 0));
     replica.open_reader(1)?;
-    assert_eq!(replica.read(1, 0)?.value, 15);
+    assert_eq!(seen(&replica, 1, 0)?, (15, 1));
     replica.close_reader(0)?;
-    assert_eq!(replica.read(1, 0)?.value, 15);
+    assert_eq!(seen(&replica, 1, 0)?, (15, 1));
     Ok(())
 }
 

@@ -214,12 +214,15 @@ fn walk(coverage: &mut Coverage, stored: u32, before: &State, after: &State) {
     coverage.count_if(unharmed, "walk: all begun ones stay though objects were stored");
 }
 
-/// Where the stamp beside a value is told from the newest version's, and from the reader's own, `taken`.
+/// Where the stamp beside a value is told from the newest version's, from the next older one's, and from the reader's own, `taken`.
 fn read(coverage: &mut Coverage, stamp: u32, taken: u32, versions: &[Version], start: Option<u32>) {
     let newest = versions.last().unwrap().timestamp;
     coverage.count_if(stamp < newest, "read: an older version than the newest");
+    coverage.count_if(versions.iter().any(|older| older.timestamp < stamp), "read: a version with an older one");
     let untouched = start == Some(newest);
-    coverage.count_if(untouched && 0 < stamp && stamp < taken, "read: an untouched object, at a start stamp above 0");
+    let between = 0 < stamp && stamp < taken;
+    coverage
+        .count_if(untouched && between, "read: an untouched object, at a start stamp above 0 and below the reader's");
 }
 
 /// What each call may answer, refusal 1 of an opening aside: only damaged areas lead to it.
@@ -334,7 +337,8 @@ const EVENTS: &[&str] = &[
     "walk: several restart",
     "walk: some stay and the rest restart",
     "read: an older version than the newest",
-    "read: an untouched object, at a start stamp above 0",
+    "read: a version with an older one",
+    "read: an untouched object, at a start stamp above 0 and below the reader's",
     "begun transactions that restarted",
     "versions that a commit let go",
     "versions that a close let go",

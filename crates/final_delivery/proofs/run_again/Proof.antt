@@ -1,10 +1,10 @@
--- `final_delivery::run_again` meets its contract: the values of the committed state are gathered, and the body is run on them and the bounds.
+-- `final_delivery::run_again` meets its contract: the values of the committed state are gathered, and the body is run on them, stamps and bounds being lent.
 use mathlib.Core.Path.{refl}
 use Rattle.final_delivery.specs.Decide.{rerun-laid, rerun-counted, values-few, values-lent, values-formed, bounds-there, values-ran}
 use Rattle.final_delivery.proofs.run_again.Statement.{statement}
 use Rattle.final_delivery.proofs.run_again.Tie as tie
 
--- ---- waypoints: the values are gathered, and it is known where the bounds stand
+-- ---- waypoints: the values are gathered, and it is known where stamps and bounds stand
 
 abbrev start : tie.After-committed-values → tie.Start
 start k = k .before .before .before .before

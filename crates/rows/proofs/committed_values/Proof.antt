@@ -1,5 +1,5 @@
 -- `rows::committed_values`: the loop's invariant is that the values passed are those that the lookup gives, and where the next object begins.
-use mathlib.Core.Path.{_≡_, refl, sym, ap, ap₂, _∙_, subst}
+use mathlib.Core.Path.{_≡_, sym, ap, ap₂, _∙_, subst}
 use Prim.Native.Nat.{ℕ, _+_, _-_, _*_, _^_, _≤_, _<_}
 use native.Mathlib.Omega.{arith}
 use lib.IntN.{pos}
@@ -12,10 +12,11 @@ use Rattle.cells.specs.Cells.{cells, Below}
 use Rattle.cells.specs.Signed.{told}
 use Rattle.execution.specs.Run.{value-of}
 use Rattle.model.specs.Serial.{Version}
+use Rattle.versions.specs.Block.{seen-from}
 use Rattle.versions.specs.Round.{seen-fits}
 use Rattle.layout.specs.Offsets.{size-at, versions-width, object-at, upper-at}
 use Rattle.rows.specs.Listed.{fill-next}
-use Rattle.rows.specs.Committed.{seen-from, looked-up, object-cell-inside, object-along, size-inside}
+use Rattle.rows.specs.Committed.{object-cell-inside, object-along, size-inside}
 use Rattle.rows.proofs.committed_values.Statement.{statement}
 use Rattle.rows.proofs.committed_values.Tie as tie
 

@@ -91,7 +91,7 @@ body-bytes p = p .body-length .ensures ∙ ap body-length (p .before .small .ens
 
 -- ---- a turn
 
--- the bounds' place
+-- where stamps and bounds stand
 placed : (lp : At) → lp .before .objects-place .result ≡ objects-place (start lp .args .l)
 placed lp = lp .before .objects-place .ensures
 

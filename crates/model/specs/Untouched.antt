@@ -1,0 +1,119 @@
+-- "For an untouched object this is the start stamp": an object that no accepted call stores keeps its newest version, and so the one that it was opened
+-- with. Assumes nothing.
+use mathlib.Core.Path.{_≡_, refl, sym, ap, _∙_}
+use mathlib.Core.Bool.{Bool, true, false, _&&_, _||_, true≢false}
+use mathlib.Core.Option.{Option, none, some}
+use mathlib.Core.List.{List, [], _∷_, map}
+use Prim.Native.Nat.{ℕ, zero, suc, _<_}
+use lib.IntN.{ℤ}
+use native.Mathlib.Omega.{arith}
+use lib.Dec.{eqb, ltb}
+use lib.ListN.{length, getD, set, List·getD-map, List·getD-eq-default}
+use borrow.Author.Tests.{ltb-true, ltb-false}
+use Rattle.execution.specs.Entries.{Entry, lookup}
+use Rattle.model.specs.declared.Limits.{Limits}
+use Rattle.model.specs.Interface.{by-values, optimistic, execute, final, open-reader, close-reader, Call, opening, update, query}
+use Rattle.model.specs.Calls.{refusal, judged}
+use Rattle.model.specs.Start.{Version, no-version, Start, start-of}
+use Rattle.model.specs.Serial.{is-some}
+use Rattle.model.specs.Replica.{Replica, newest, opens, prune, committed-table, keyed, result, facts, install, commit, opened, perform, call, calls}
+use Rattle.model.specs.ListLaws.{length-mapi, getD-mapi, map-map-same}
+use Rattle.model.specs.VersionLaws.{replaced, overlay, newest-prune, newest-install}
+use Rattle.model.specs.Tests.{neither}
+
+-- whether a call that is accepted stores object o: a final delivery with o among its writes; an opening stores all
+abbrev pub stores : Replica → ℕ → Call → Bool
+stores u o (opening x) = true
+stores u o (update (optimistic c s b)) = false
+stores u o (update (execute k)) = false
+stores u o (update (final c s)) = is-some (lookup (result (committed-table u) (keyed u c s) .writes) o)
+stores u o (update (open-reader r)) = false
+stores u o (update (close-reader r)) = false
+stores u o (query q) = false
+
+passed-over : (t : ℕ) (writes : List Entry) (vs : List Version) (o : ℕ) → is-some (lookup writes o) ≡ false → getD (overlay t writes vs) o no-version ≡ getD vs o no-version
+unfolding overlay
+passed-over t writes vs o h = go′ (ltb o (length vs)) refl
+  where
+    same : (x : Version) (k : Option ℤ) → is-some k ≡ false → replaced t x k ≡ x
+    same x none e = refl
+    same x (some v) e = absurd (true≢false e)
+
+    go′ : (b : Bool) → ltb o (length vs) ≡ b → getD (overlay t writes vs) o no-version ≡ getD vs o no-version
+    go′ true e =
+        getD-mapi (λ i x. replaced t x (lookup writes i)) vs o no-version no-version (ltb-true o (length vs) e)
+        ∙ same (getD vs o no-version) (lookup writes o) h
+    go′ false e =
+        let m = ltb-false o (length vs) e in
+        List·getD-eq-default (overlay t writes vs) no-version (omega (arith, length-mapi (λ i x. replaced t x (lookup writes i)) vs))
+        ∙ sym (List·getD-eq-default vs no-version (omega arith))
+
+module _ (l : Limits) (o : ℕ) where
+  -- whether one of a list of calls does
+  unfoldable pub touched : Replica → List Call → Bool
+  touched u [] = false
+  touched u (c ∷ cs) = (eqb (refusal l (facts u) c) 0 && stores u o c) || touched (call l u c .1) cs
+
+  abbrev its : Replica → Version
+  its u = newest (getD (u .objects) o [])
+
+  -- a write set without the object
+  kept : (t : ℕ) (rs : List ℕ) (writes : List Entry) (objs : List (List Version)) → is-some (lookup writes o) ≡ false
+      → newest (getD (install t rs writes objs) o []) ≡ newest (getD objs o [])
+  kept t rs writes objs h =
+      sym (List·getD-map newest (install t rs writes objs) o [])
+      ∙ ap (λ (vs : List Version). getD vs o no-version) (newest-install t rs writes objs)
+      ∙ passed-over t writes (map newest objs) o h
+      ∙ List·getD-map newest objs o []
+
+  perform-kept : (u : Replica) (c : Call) → stores u o c ≡ false → its (perform l u c .1) ≡ its u
+  unfolding perform commit
+  perform-kept u (opening x) h = absurd (true≢false h)
+  perform-kept u (update (optimistic c s b)) h = refl
+  perform-kept u (update (execute k)) h = refl
+  perform-kept u (update (final c s)) h =
+      kept (suc (u .timestamp)) (opens (u .readers)) (result (committed-table u) (keyed u c s) .writes) (u .objects) h
+  perform-kept u (update (open-reader r)) h = refl
+  perform-kept u (update (close-reader r)) h =
+      let rs = opens (set (u .readers) r none) in
+      sym (List·getD-map newest (map (prune rs) (u .objects)) o [])
+      ∙ ap (λ (vs : List Version). getD vs o no-version) (map-map-same newest (prune rs) (u .objects) (newest-prune rs))
+      ∙ List·getD-map newest (u .objects) o []
+  perform-kept u (query q) h = refl
+
+  call-kept : (u : Replica) (c : Call) → eqb (refusal l (facts u) c) 0 && stores u o c ≡ false → its (call l u c .1) ≡ its u
+  unfolding call
+  call-kept u c h = go′ (refusal l (facts u) c) h
+    where
+      go′ : (k : ℕ) → eqb k 0 && stores u o c ≡ false → its (judged u (perform l u c) k .1) ≡ its u
+      go′ zero h = perform-kept u c h
+      go′ (suc k) h = refl
+
+  pub untouched : (u : Replica) (cs : List Call) → touched u cs ≡ false → its (calls l u cs .1) ≡ its u
+  unfolding calls touched
+  untouched u [] h = refl
+  untouched u (c ∷ cs) h =
+      let k = neither (eqb (refusal l (facts u) c) 0 && stores u o c) (touched (call l u c .1) cs) h in
+      untouched (call l u c .1) cs (k .1) ∙ call-kept u c (k .0)
+
+  -- from an opening on: its version is the one that it was opened with
+  pub untouched-start : (s : Start) (cs : List Call) → touched (opened l s) cs ≡ false → its (calls l (opened l s) cs .1) ≡ getD (s .versions) o no-version
+  unfolding opened
+  untouched-start s cs h =
+      untouched (opened l s) cs h ∙ newest-single (s .versions) o
+    where
+      newest-single : (vs : List Version) (o : ℕ) → newest (getD (map (λ v. v ∷ []) vs) o []) ≡ getD vs o no-version
+      newest-single [] o = refl
+      newest-single (v ∷ vs) zero = refl
+      newest-single (v ∷ vs) (suc o) = newest-single vs o
+
+  -- opened by values: the start stamp
+  pub untouched-stamp : (n : ℕ) (vs los his : List ℤ) (t : ℕ) (cs : List Call) → o < length vs
+      → (let s = start-of (by-values n vs los his t) in touched (opened l s) cs ≡ false → its (calls l (opened l s) cs .1) .stamp ≡ t)
+  untouched-stamp n vs los his t cs low h =
+      ap (λ (v : Version). v .stamp) (untouched-start (start-of (by-values n vs los his t)) cs h) ∙ stamped vs o low
+    where
+      stamped : (vs : List ℤ) (o : ℕ) → o < length vs → getD (map (λ v. record { stamp = t; value = v }) vs) o no-version .stamp ≡ t
+      stamped [] o k = absurd (omega arith)
+      stamped (v ∷ vs) zero k = refl
+      stamped (v ∷ vs) (suc o) k = stamped vs o (omega arith)
