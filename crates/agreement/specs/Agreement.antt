@@ -1,6 +1,6 @@
 -- DEMAND 3, whole, on the two lent areas: every list of calls by `act`, the function that the public contracts cite, each given both areas as the last one
 -- left them, from an accepted opening on areas with any contents (`Trace`). Assumes nothing.
-use mathlib.Core.Path.{_≡_, sym, subst}
+use mathlib.Core.Path.{_≡_, sym, ap, _∙_, subst}
 use mathlib.Core.Bool.{true, false}
 use mathlib.Core.List.{List, [], _∷_}
 use Prim.Native.Nat.{ℕ, _<_}
@@ -8,15 +8,16 @@ use lib.ListN.{length, getD}
 use Rattle.model.specs.declared.Limits.{Limits}
 use Rattle.model.specs.Lists.{any}
 use Rattle.model.specs.Calls.{Call, open-reader, read, done, version}
-use Rattle.model.specs.Start.{start-of}
+use Rattle.model.specs.Start.{no-version, start-of}
 use Rattle.model.specs.Serial as serial
 use Rattle.model.specs.Serial.{Serial}
-use Rattle.model.specs.Replica.{newest}
+use Rattle.model.specs.Replica.{Replica, newest, opened}
 use Rattle.model.specs.ListLaws.{All}
 use Rattle.model.specs.ShapeKept.{Typed}
 use Rattle.model.specs.Serializability.{Serializable}
 use Rattle.model.specs.Replicas.{SameCommits}
 use Rattle.model.specs.ReaderSnapshots.{ends}
+use Rattle.model.specs.Untouched.{touched, untouched-start}
 use Rattle.model.specs.EarlyRecord.{EarlyResults, demand-3-record}
 use Rattle.layout.specs.Fit.{fit}
 use Rattle.layout.specs.Act.{act, acts}
@@ -60,3 +61,14 @@ demand-3-on-areas {l} x =
       early = subst EarlyResults (sym (replica-same x)) (demand-3-record l (start-of (x .opening)) (dated x) (x .later));
       shape = acts-fit l (x .sane) (x .opening) (x .before) (x .accepted) (x .typed .0) (x .later) (x .typed .1);
     }
+
+-- "For an untouched object this is the start stamp": until an accepted call stores the object, a reader that is opened answers the version of the opening
+pub untouched-on-areas : {l : Limits} (x : Trace l) (o : ℕ) → touched l o (opened l (start-of (x .opening))) (x .later) ≡ false
+    → (r : ℕ) → act l (open-reader r) (areas x) .0 ≡ done
+    → (cs : List Call) → All Typed cs → any (ends l r) cs ≡ false
+    → o < length (replica x .objects)
+    → act l (read r o) (acts l (open-reader r ∷ cs) (areas x) .1) .0 ≡ version (getD (start-of (x .opening) .versions) o no-version)
+untouched-on-areas {l} x o h r e cs g q low =
+    reads-as-opened x r e cs g q o low
+    ∙ ap (λ (u : Replica). version (newest (getD (u .objects) o []))) (replica-same x)
+    ∙ ap version (untouched-start l o (start-of (x .opening)) (x .later) h)
