@@ -1,8 +1,6 @@
 //! The ten cases of "A small depot", bounds, stamps beside values, and each refusal.
 
-use jobstore::{
-    Body, Bounds, Committed, Executed, Found, Outcome, Reading, Refusal, Replica, BODIES_LENGTH, RECORD_LENGTH,
-};
+use jobstore::{Body, Bounds, Committed, Executed, Found, Outcome, Refusal, Replica, BODIES_LENGTH, RECORD_LENGTH};
 
 fn add_5() -> Body {
     Body::new().load(0, 0).set(1, 5).add(0, 1).store(0, 0)

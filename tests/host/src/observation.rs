@@ -219,10 +219,8 @@ fn read(coverage: &mut Coverage, stamp: u32, taken: u32, versions: &[Version], s
     let newest = versions.last().unwrap().timestamp;
     coverage.count_if(stamp < newest, "read: an older version than the newest");
     coverage.count_if(versions.iter().any(|older| older.timestamp < stamp), "read: a version with an older one");
-    let untouched = start == Some(newest);
-    let between = 0 < stamp && stamp < taken;
-    coverage
-        .count_if(untouched && between, "read: an untouched object, at a start stamp above 0 and below the reader's");
+    let untouched = start == Some(newest) && 0 < stamp && stamp < taken;
+    coverage.count_if(untouched, "read: an untouched object, at a start stamp above 0 and below the reader's");
 }
 
 /// What each call may answer, refusal 1 of an opening aside: only damaged areas lead to it.
