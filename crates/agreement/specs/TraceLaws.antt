@@ -5,17 +5,17 @@ use mathlib.Core.List.{List, [], _∷_, _++_}
 use Prim.Native.Nat.{ℕ, zero, suc, _≤_, _<_}
 use native.Mathlib.Omega.{arith}
 use lib.IntN.{ℤ}
-use lib.ListN.{length, getD, length-map, List·getD-map}
+use lib.ListN.{length, getD, length-map}
 use borrow.Author.Tests.{eq-eqb}
 use Rattle.model.specs.declared.Limits.{Limits}
 use Rattle.model.specs.Lists.{pick, any}
 use Rattle.model.specs.Interface.{optimistic, execute, final, open-reader, close-reader, read, find, show-body, Call, opening, update, query, Answer}
 use Rattle.model.specs.Calls.{plain, done, version, is-key, bytes-of, shown, causes, refusal, judged}
-use Rattle.model.specs.Start.{Version, no-version, Start, start-of}
+use Rattle.model.specs.Start.{Start, start-of}
 use Rattle.model.specs.Replica.{Replica, newest, keyed, facts, opened, perform, call, calls}
 use Rattle.model.specs.ListLaws.{All}
 use Rattle.model.specs.Refusals.{accepted, plain-counted, plain-inside}
-use Rattle.model.specs.VersionLaws.{Dated, opening-dated}
+use Rattle.model.specs.VersionLaws.{newest-at, Dated, opening-dated}
 use Rattle.model.specs.Correspondence.{picked-bytes}
 use Rattle.model.specs.ShapeCheck.{shaped}
 use Rattle.model.specs.ShapeKept.{Typed, call-shaped}
@@ -172,10 +172,7 @@ module _ {l m : Limits} (x : Trace l) (y : Trace m) (e : history x ≡ history y
       (record { results = k .results; objects = k .objects; timestamp = k .timestamp })
 
   same-version : (o : ℕ) → newest (getD (replica x .objects) o []) ≡ newest (getD (replica y .objects) o [])
-  same-version o =
-      sym (List·getD-map newest (replica x .objects) o [])
-      ∙ ap (λ (vs : List Version). getD vs o no-version) (states.same-newest same-commits)
-      ∙ List·getD-map newest (replica y .objects) o []
+  same-version o = newest-at (replica x .objects) (replica y .objects) (states.same-newest same-commits) o
 
   as-many : length (replica x .objects) ≡ length (replica y .objects)
   as-many =

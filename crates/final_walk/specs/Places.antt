@@ -20,12 +20,13 @@ use Rattle.execution.specs.Run.{Table, matches, over}
 use Rattle.execution.specs.ReadAgreement.{both}
 use Rattle.execution.specs.RunShape.{every, sound}
 use Rattle.model.specs.declared.Limits.{Limits}
-use Rattle.model.specs.Serial.{Version, no-version}
+use Rattle.model.specs.Serial.{Version}
 use Rattle.model.specs.Replica.{Replica, newest, committed-table}
 use Rattle.model.specs.ListLaws.{All, all-in}
+use Rattle.model.specs.VersionLaws.{newest-one}
 use Rattle.layout.specs.Offsets.{Sane, object-width, object-at, value-at}
 use Rattle.layout.specs.Printable.{VersionFits, ObjectFits}
-use Rattle.layout.specs.RowCells.{block-value}
+use Rattle.layout.specs.RowCells.{block-newest}
 use Rattle.layout.specs.Holds.{Holds, holds-long}
 use Rattle.layout.specs.Reading.{get-object}
 
@@ -82,15 +83,10 @@ module _ (l : Limits) (s : Sane l) (b : List ℕ) (u : Replica) (h : Holds l b u
   value-back : (i : ℕ) → i < length (u .objects) → toZ w64 (getD (cells b) (object-at l i + value-at 0) 0) ≡ newest (getD (u .objects) i []) .value
   value-back i k =
       let vs = getD (u .objects) i [] in
-      let g = all-in (ObjectFits (l .readers)) (u .objects) i [] (h .fits .objects .1) k in
+      let fits = all-in (ObjectFits (l .readers)) (u .objects) i [] (h .fits .objects .1) k .1 in
       let some = all-in (λ (vs : List Version). 0 < length vs) (u .objects) i [] some-version k in
-      ap (toZ w64) (get-object l s b u h i k 2 (omega arith) ∙ block-value l vs 0 some no-version)
-      ∙ toZ-ofZ (all-in VersionFits vs 0 no-version (g .1) some .1)
-      ∙ head-newest vs some
-    where
-      head-newest : (vs : List Version) → 0 < length vs → getD vs 0 no-version .value ≡ newest vs .value
-      head-newest [] p = absurd (omega arith)
-      head-newest (v ∷ vs) p = refl
+      ap (toZ w64) (get-object l s b u h i k (value-at 0) (omega arith) ∙ block-newest l vs some .1)
+      ∙ toZ-ofZ (newest-one VersionFits vs (omega arith, record { sfits = omega arith }) fits .1)
 
   pub placed-table : (ps : List ℕ) → Placed l (length (u .objects)) ps → Same (length (u .objects)) (table-in (cells b) ps) (committed-table u)
   placed-table ps p o k =

@@ -1,9 +1,9 @@
 -- A row and an object's block, cell by cell. Assumes nothing.
 use mathlib.Core.Path.{_≡_, refl, sym, ap, _∙_}
 use mathlib.Core.List.{List, [], _∷_, _++_, map, append-assoc}
-use Prim.Native.Nat.{ℕ, zero, suc, _+_, _-_, _*_, _<_}
+use Prim.Native.Nat.{ℕ, suc, _+_, _-_, _*_, _<_}
 use native.Mathlib.Omega.{arith}
-use native.Mathlib.Nat.{not-suc-le-zero, le-of-suc-le-suc}
+use native.Mathlib.Nat.{not-suc-le-zero}
 use lib.IntN.{pos}
 use lib.ListN.{length, getD, length-map, length-append, List·getD-map, List·getD-append}
 use lib.Seq.{getD-append-add}
@@ -48,23 +48,12 @@ module _ {A : Type 0} {c : Codec A} {P : A → Type 0} {K : ℕ → Type 0} (u :
 
 -- ---- an object's block
 
-flat-value : (vs : List Version) (ts : List ℕ) (j : ℕ) → j < length vs → (d : Version) → getD (versions.flat vs ++ ts) (1 + j * 2) 0 ≡ ofZ w64 (getD vs j d .value)
-unfolding versions.flat
-flat-value [] ts j h d = absurd (not-suc-le-zero h)
-flat-value (v ∷ vs) ts zero h d = refl
-flat-value (v ∷ vs) ts (suc j) h d =
-    let e : 1 + suc j * 2 ≡ suc (suc (1 + j * 2)) = omega arith in rw e (flat-value vs ts j (le-of-suc-le-suc h) d)
-
-pub block-value : (l : Limits) (vs : List Version) (j : ℕ) → j < length vs → (d : Version) → getD (layout.versions l .enc vs) (value-at j) 0 ≡ ofZ w64 (getD vs j d .value)
-unfolding versions.block
-block-value l vs j h d =
-    let e : value-at j ≡ suc (1 + j * 2) = omega arith in
-    rw e (flat-value vs (blank (2 * (suc (l .readers) - length vs))) j h d)
-
-pub block-newest-stamp : (l : Limits) (vs : List Version) → 0 < length vs → getD (layout.versions l .enc vs) (stamp-at 0) 0 ≡ newest vs .stamp
+-- its newest version: stamp and value
+pub block-newest : (l : Limits) (vs : List Version) → 0 < length vs
+    → (getD (layout.versions l .enc vs) (stamp-at 0) 0 ≡ newest vs .stamp) × (getD (layout.versions l .enc vs) (value-at 0) 0 ≡ ofZ w64 (newest vs .value))
 unfolding versions.block versions.flat
-block-newest-stamp l [] h = absurd (not-suc-le-zero h)
-block-newest-stamp l (v ∷ vs) h = refl
+block-newest l [] h = absurd (not-suc-le-zero h)
+block-newest l (v ∷ vs) h = (refl, refl)
 
 -- ---- a row
 

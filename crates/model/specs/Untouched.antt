@@ -18,7 +18,7 @@ use Rattle.model.specs.Start.{Version, no-version, Start, start-of}
 use Rattle.model.specs.Serial.{is-some}
 use Rattle.model.specs.Replica.{Replica, newest, opens, prune, committed-table, keyed, result, facts, install, commit, opened, perform, call, calls}
 use Rattle.model.specs.ListLaws.{length-mapi, getD-mapi, map-map-same}
-use Rattle.model.specs.VersionLaws.{replaced, overlay, newest-prune, newest-install}
+use Rattle.model.specs.VersionLaws.{replaced, overlay, newest-at, newest-prune, newest-install}
 use Rattle.model.specs.Tests.{neither}
 
 -- whether a call that is accepted stores object o: a final delivery with o among its writes; an opening stores all
@@ -31,9 +31,9 @@ stores u o (update (open-reader r)) = false
 stores u o (update (close-reader r)) = false
 stores u o (query q) = false
 
-passed-over : (t : ℕ) (writes : List Entry) (vs : List Version) (o : ℕ) → is-some (lookup writes o) ≡ false → getD (overlay t writes vs) o no-version ≡ getD vs o no-version
+overlay-unwritten : (t : ℕ) (writes : List Entry) (vs : List Version) (o : ℕ) → is-some (lookup writes o) ≡ false → getD (overlay t writes vs) o no-version ≡ getD vs o no-version
 unfolding overlay
-passed-over t writes vs o h = go′ (ltb o (length vs)) refl
+overlay-unwritten t writes vs o h = go′ (ltb o (length vs)) refl
   where
     same : (x : Version) (k : Option ℤ) → is-some k ≡ false → replaced t x k ≡ x
     same x none e = refl
@@ -54,50 +54,48 @@ module _ (l : Limits) (o : ℕ) where
   touched u [] = false
   touched u (c ∷ cs) = (eqb (refusal l (facts u) c) 0 && stores u o c) || touched (call l u c .1) cs
 
-  abbrev its : Replica → Version
-  its u = newest (getD (u .objects) o [])
+  abbrev its-newest : Replica → Version
+  its-newest u = newest (getD (u .objects) o [])
 
   -- a write set without the object
-  kept : (t : ℕ) (rs : List ℕ) (writes : List Entry) (objs : List (List Version)) → is-some (lookup writes o) ≡ false
+  newest-unwritten : (t : ℕ) (rs : List ℕ) (writes : List Entry) (objs : List (List Version)) → is-some (lookup writes o) ≡ false
       → newest (getD (install t rs writes objs) o []) ≡ newest (getD objs o [])
-  kept t rs writes objs h =
+  newest-unwritten t rs writes objs h =
       sym (List·getD-map newest (install t rs writes objs) o [])
       ∙ ap (λ (vs : List Version). getD vs o no-version) (newest-install t rs writes objs)
-      ∙ passed-over t writes (map newest objs) o h
+      ∙ overlay-unwritten t writes (map newest objs) o h
       ∙ List·getD-map newest objs o []
 
-  perform-kept : (u : Replica) (c : Call) → stores u o c ≡ false → its (perform l u c .1) ≡ its u
+  newest-performed : (u : Replica) (c : Call) → stores u o c ≡ false → its-newest (perform l u c .1) ≡ its-newest u
   unfolding perform commit
-  perform-kept u (opening x) h = absurd (true≢false h)
-  perform-kept u (update (optimistic c s b)) h = refl
-  perform-kept u (update (execute k)) h = refl
-  perform-kept u (update (final c s)) h =
-      kept (suc (u .timestamp)) (opens (u .readers)) (result (committed-table u) (keyed u c s) .writes) (u .objects) h
-  perform-kept u (update (open-reader r)) h = refl
-  perform-kept u (update (close-reader r)) h =
+  newest-performed u (opening x) h = absurd (true≢false h)
+  newest-performed u (update (optimistic c s b)) h = refl
+  newest-performed u (update (execute k)) h = refl
+  newest-performed u (update (final c s)) h =
+      newest-unwritten (suc (u .timestamp)) (opens (u .readers)) (result (committed-table u) (keyed u c s) .writes) (u .objects) h
+  newest-performed u (update (open-reader r)) h = refl
+  newest-performed u (update (close-reader r)) h =
       let rs = opens (set (u .readers) r none) in
-      sym (List·getD-map newest (map (prune rs) (u .objects)) o [])
-      ∙ ap (λ (vs : List Version). getD vs o no-version) (map-map-same newest (prune rs) (u .objects) (newest-prune rs))
-      ∙ List·getD-map newest (u .objects) o []
-  perform-kept u (query q) h = refl
+      newest-at (map (prune rs) (u .objects)) (u .objects) (map-map-same newest (prune rs) (u .objects) (newest-prune rs)) o
+  newest-performed u (query q) h = refl
 
-  call-kept : (u : Replica) (c : Call) → eqb (refusal l (facts u) c) 0 && stores u o c ≡ false → its (call l u c .1) ≡ its u
+  newest-called : (u : Replica) (c : Call) → eqb (refusal l (facts u) c) 0 && stores u o c ≡ false → its-newest (call l u c .1) ≡ its-newest u
   unfolding call
-  call-kept u c h = go′ (refusal l (facts u) c) h
+  newest-called u c h = go′ (refusal l (facts u) c) h
     where
-      go′ : (k : ℕ) → eqb k 0 && stores u o c ≡ false → its (judged u (perform l u c) k .1) ≡ its u
-      go′ zero h = perform-kept u c h
+      go′ : (k : ℕ) → eqb k 0 && stores u o c ≡ false → its-newest (judged u (perform l u c) k .1) ≡ its-newest u
+      go′ zero h = newest-performed u c h
       go′ (suc k) h = refl
 
-  pub untouched : (u : Replica) (cs : List Call) → touched u cs ≡ false → its (calls l u cs .1) ≡ its u
+  pub untouched : (u : Replica) (cs : List Call) → touched u cs ≡ false → its-newest (calls l u cs .1) ≡ its-newest u
   unfolding calls touched
   untouched u [] h = refl
   untouched u (c ∷ cs) h =
       let k = neither (eqb (refusal l (facts u) c) 0 && stores u o c) (touched (call l u c .1) cs) h in
-      untouched (call l u c .1) cs (k .1) ∙ call-kept u c (k .0)
+      untouched (call l u c .1) cs (k .1) ∙ newest-called u c (k .0)
 
   -- from an opening on: its version is the one that it was opened with
-  pub untouched-start : (s : Start) (cs : List Call) → touched (opened l s) cs ≡ false → its (calls l (opened l s) cs .1) ≡ getD (s .versions) o no-version
+  pub untouched-start : (s : Start) (cs : List Call) → touched (opened l s) cs ≡ false → its-newest (calls l (opened l s) cs .1) ≡ getD (s .versions) o no-version
   unfolding opened
   untouched-start s cs h =
       untouched (opened l s) cs h ∙ newest-single (s .versions) o
@@ -109,11 +107,11 @@ module _ (l : Limits) (o : ℕ) where
 
   -- opened by values: the start stamp
   pub untouched-stamp : (n : ℕ) (vs los his : List ℤ) (t : ℕ) (cs : List Call) → o < length vs
-      → (let s = start-of (by-values n vs los his t) in touched (opened l s) cs ≡ false → its (calls l (opened l s) cs .1) .stamp ≡ t)
+      → (let s = start-of (by-values n vs los his t) in touched (opened l s) cs ≡ false → its-newest (calls l (opened l s) cs .1) .stamp ≡ t)
   untouched-stamp n vs los his t cs low h =
-      ap (λ (v : Version). v .stamp) (untouched-start (start-of (by-values n vs los his t)) cs h) ∙ stamped vs o low
+      ap (λ (v : Version). v .stamp) (untouched-start (start-of (by-values n vs los his t)) cs h) ∙ start-stamp vs o low
     where
-      stamped : (vs : List ℤ) (o : ℕ) → o < length vs → getD (map (λ v. record { stamp = t; value = v }) vs) o no-version .stamp ≡ t
-      stamped [] o k = absurd (omega arith)
-      stamped (v ∷ vs) zero k = refl
-      stamped (v ∷ vs) (suc o) k = stamped vs o (omega arith)
+      start-stamp : (vs : List ℤ) (o : ℕ) → o < length vs → getD (map (λ v. record { stamp = t; value = v }) vs) o no-version .stamp ≡ t
+      start-stamp [] o k = absurd (omega arith)
+      start-stamp (v ∷ vs) zero k = refl
+      start-stamp (v ∷ vs) (suc o) k = start-stamp vs o (omega arith)

@@ -69,7 +69,16 @@ pub as-of-now : (t : ℕ) (vs : List Version) → newest vs .stamp ≤ t → as-
 as-of-now t [] h = refl
 as-of-now t (v ∷ vs) h = rw (le-leb (v .stamp) t h)
 
--- what a reader sees is one of the versions, or none
+-- objects whose newest versions are the same, one by one
+pub newest-at : (a b : List (List Version)) → map newest a ≡ map newest b → (o : ℕ) → newest (getD a o []) ≡ newest (getD b o [])
+newest-at a b e o = sym (List·getD-map newest a o []) ∙ ap (λ (vs : List Version). getD vs o no-version) e ∙ List·getD-map newest b o []
+
+-- the newest is one of the versions, or none
+pub newest-one : (P : Version → Type 0) (vs : List Version) → P no-version → All P vs → P (newest vs)
+newest-one P [] n h = n
+newest-one P (v ∷ vs) n h = h .0
+
+-- so is what a reader sees
 pub as-of-one : (P : Version → Type 0) (r : ℕ) (vs : List Version) → P no-version → All P vs → P (as-of r vs)
 as-of-one P r [] n h = n
 as-of-one P r (v ∷ vs) n h = go′ (leb (v .stamp) r) (as-of-one P r vs n (h .1))
@@ -106,8 +115,7 @@ none-later t (v ∷ vs) h =
     let k = both (leb (v .stamp) t) (all (λ v. leb (v .stamp) t) vs) h in (leb-true (v .stamp) t (k .0), none-later t vs (k .1))
 
 pub newest-until : (t : ℕ) (vs : List Version) → all (λ v. leb (v .stamp) t) vs ≡ true → Until t vs
-newest-until t [] h = omega arith
-newest-until t (v ∷ vs) h = none-later t (v ∷ vs) h .0
+newest-until t vs h = newest-one (λ (v : Version). v .stamp ≤ t) vs (omega arith) (none-later t vs h)
 
 pub until-prune : (rs : List ℕ) (t : ℕ) (objs : List (List Version)) → All (Until t) objs → All (Until t) (map (prune rs) objs)
 until-prune rs t [] h = tt

@@ -28,7 +28,7 @@ use Rattle.model.specs.VersionLaws.{Until, as-of-now, newest-until}
 use Rattle.versions.specs.Block.{seen-from}
 use Rattle.layout.specs.Offsets.{Sane, size-at, object-width, versions-width, object-at, stamp-at, lower-at, upper-at, record-length}
 use Rattle.layout.specs.Printable.{BoundsFit}
-use Rattle.layout.specs.RowCells.{block-newest-stamp}
+use Rattle.layout.specs.RowCells.{block-newest}
 use Rattle.layout.specs.Holds.{Holds, holds-long}
 use Rattle.layout.specs.Reading.{get-timestamp, get-size, get-object, get-lower, get-upper}
 use Rattle.layout.specs.LentBlock.{lent-object, lent-count}
@@ -142,7 +142,7 @@ module _ (l : Limits) (s : Sane l) (b : List ℕ) (u : Replica) (h : Holds l b u
     stamp-back i k =
         ap (λ (a : ℕ). getD (cells b) a 0) (stamp-along l i)
         ∙ get-object l s b u h i k (stamp-at 0) (omega arith)
-        ∙ block-newest-stamp l (getD (u .objects) i []) (versioned i k .0)
+        ∙ block-newest l (getD (u .objects) i []) (versioned i k .0) .0
 
     -- a run's table has the stamps that the lookup gives beside its values
     pub stamp-looked-up : (i : ℕ) → i < length (u .objects) → getD (cells b) (stamp-cell (objects-place l) i) 0 ≡ looked-up l b i .stamp

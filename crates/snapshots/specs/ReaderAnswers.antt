@@ -9,7 +9,6 @@ use native.Mathlib.Omega.{arith}
 use lib.Dec.{eqb, leb}
 use lib.ListN.{length, getD, set, List·getD-map}
 use borrow.Author.Tests.{le-leb, lt-leb}
-use borrow.Rule.Slice.PartMut.{midOf}
 use Rattle.cells.specs.Cells.{cells, Put}
 use Rattle.model.specs.declared.Limits.{Limits}
 use Rattle.model.specs.Calls.{Call, Query, Yield, open-reader, read, close-reader, Answer, refused, yielded, done, version, causes, refusal, judged, last-timestamp}
