@@ -17,7 +17,7 @@ use Rattle.model.specs.ShapeKept.{Typed}
 use Rattle.model.specs.Serializability.{Serializable}
 use Rattle.model.specs.Replicas.{SameCommits}
 use Rattle.model.specs.ReaderSnapshots.{ends}
-use Rattle.model.specs.Untouched.{touched, untouched-start}
+use Rattle.model.specs.Untouched.{store-count, untouched-start}
 use Rattle.model.specs.EarlyRecord.{EarlyResults, demand-3-record}
 use Rattle.layout.specs.Fit.{fit}
 use Rattle.layout.specs.Act.{act, acts}
@@ -63,7 +63,7 @@ demand-3-on-areas {l} x =
     }
 
 -- "For an untouched object this is the start stamp": until an accepted call stores the object, a reader that is opened answers the version of the opening
-pub untouched-on-areas : {l : Limits} (x : Trace l) (o : ℕ) → touched l o (opened l (start-of (x .opening))) (x .later) ≡ false
+pub untouched-on-areas : {l : Limits} (x : Trace l) (o : ℕ) → store-count l o (opened l (start-of (x .opening))) (x .later) ≡ 0
     → (r : ℕ) → act l (open-reader r) (areas x) .0 ≡ done
     → (cs : List Call) → All Typed cs → any (ends l r) cs ≡ false
     → o < length (replica x .objects)

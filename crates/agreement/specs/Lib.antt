@@ -1,6 +1,7 @@
 pub mod Trace
 pub mod TraceLaws
 pub mod Agreement
+pub mod Lookups
 pub mod CasesOnAreas
 pub mod TwoKinds
 pub mod ContractTrace

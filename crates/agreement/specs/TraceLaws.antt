@@ -132,7 +132,7 @@ module _ {l : Limits} (x : Trace l) where
   -- ---- a reader
 
   -- an answer of 0 tells that the call was taken
-  opens : (r : ℕ) → act l (update (open-reader r)) (areas x) .0 ≡ done → refusal l (facts last) (update (open-reader r)) ≡ 0
+  pub opens : (r : ℕ) → act l (update (open-reader r)) (areas x) .0 ≡ done → refusal l (facts last) (update (open-reader r)) ≡ 0
   unfolding call
   opens r e =
       go′ (refusal l (facts last) (update (open-reader r)))
@@ -143,14 +143,21 @@ module _ {l : Limits} (x : Trace l) where
       go′ (suc k) h = absurd (let z : _≡_ {A = ℕ} 0 1 = cc in omega arith)
 
   module _ (r : ℕ) (e : act l (update (open-reader r)) (areas x) .0 ≡ done) (cs : List Call) (g : All Typed cs) (q : any (ends l r) cs ≡ false) where
-    abbrev then : Replica
+    abbrev pub then : Replica
     then = calls l last (update (open-reader r) ∷ cs) .1
+
+    pub then-shaped : shaped l then ≡ true
+    then-shaped = calls-shaped l s (update (open-reader r) ∷ cs) last last-shaped (tt, g)
+
+    pub areas-then : acts l (update (open-reader r) ∷ cs) (areas x) .1 ≡ print l then
+    areas-then =
+        ap (λ (a : Areas). acts l (update (open-reader r) ∷ cs) a .1) areas-print
+        ∙ ap (λ (y : List Answer × Areas). y .1) (acts-print l s (update (open-reader r) ∷ cs) last last-shaped (tt, g))
 
     pub reads-as-opened : (o : ℕ) → o < length (replica x .objects) → act l (query (read r o)) (acts l (update (open-reader r) ∷ cs) (areas x) .1) .0 ≡ version (newest (getD (replica x .objects) o []))
     reads-as-opened o h =
-        ap (λ (a : Areas). act l (query (read r o)) (acts l (update (open-reader r) ∷ cs) a .1) .0) areas-print
-        ∙ ap (λ (y : List Answer × Areas). act l (query (read r o)) (y .1) .0) (acts-print l s (update (open-reader r) ∷ cs) last last-shaped (tt, g))
-        ∙ ap (λ (y : Answer × Areas). y .0) (act-print l s (query (read r o)) then (calls-shaped l s (update (open-reader r) ∷ cs) last last-shaped (tt, g)))
+        ap (λ (a : Areas). act l (query (read r o)) a .0) areas-then
+        ∙ ap (λ (y : Answer × Areas). y .0) (act-print l s (query (read r o)) then then-shaped)
         ∙ reader-snapshot l (start-of (x .opening)) dated (x .later) cs r o (opens r e) q (rw replica-same at h)
         ∙ sym (ap (λ (u : Replica). version (newest (getD (u .objects) o []))) replica-same)
 

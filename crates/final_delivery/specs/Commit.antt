@@ -35,8 +35,8 @@ use Rattle.layout.specs.Holds.{Holds, HoldsBodies, with-timestamp, with-lasts, 
 use Rattle.layout.specs.Reading.{get-size, get-timestamp}
 use Rattle.layout.specs.Writing.{put-timestamp, put-last}
 use Rattle.layout.specs.Bodies.{same-bodies}
-use Rattle.rows.specs.Committed as rows
-use Rattle.rows.specs.Listed.{length-entries}
+use Rattle.committed_table.specs.Committed as committed
+use Rattle.execution.specs.Listed.{length-entries}
 use Rattle.final_commit.specs.Install.{installed}
 use Rattle.final_commit.specs.Publish.{Few, Publishing, Publishes}
 use Rattle.final_commit.specs.Positions.{at, fits-at, Both}
@@ -116,7 +116,7 @@ module _ {l : Limits} {b c : List ℕ} {cl i : ℕ} (s : Sane l) (m : Local l) (
   abbrev T : Table
   T = committed-table (p .replica)
 
-  pub found-laid : rows.Laid l b
+  pub found-laid : committed.Laid l b
   found-laid =
       record { whole = holds-long l s b u (p .holds); few = omega (arith, get-size l s b u (p .holds), p .holds .fits .objects .0); room = m .objects }
 

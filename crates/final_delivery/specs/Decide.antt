@@ -38,8 +38,8 @@ use Rattle.layout.specs.Reading.{get-size}
 use Rattle.layout.specs.Bodies.{body-part, body-size, body-span}
 use Rattle.layout.specs.Printable.{few-pending}
 use Rattle.rows.specs.RowRun.{entry-in, entries-in}
-use Rattle.rows.specs.Listed.{listed-same}
-use Rattle.rows.specs.Committed as rows
+use Rattle.execution.specs.Listed.{listed-same}
+use Rattle.committed_table.specs.Committed as committed
 use Rattle.final_commit.specs.Positions.{at, fits-at}
 use Rattle.final_walk.specs.Places.{table-in, Reaching, Placed, matches-same, placed-inside, placed-table}
 use Rattle.final_walk.specs.Recorded.{entry-from, reads-from, writes-from, Lying, row-lying, row-few, row-reads-from, row-writes-from, row-counter, row-outcome}
@@ -98,7 +98,7 @@ valid-at b ps body t a =
 pub record Rerunning (l : Limits) (b body : List ℕ) : Type 0 where
   pub replica : Replica
   pub holds : Holds l b replica
-  pub versions : rows.Current replica
+  pub versions : committed.Current replica
   pub formed : is-well-formed capacity (length (replica .objects)) body ≡ true
 
 -- the whole run of this body, in counts, with its write set in two arrays
@@ -110,38 +110,38 @@ pub record Reruns (l : Limits) (b body : List ℕ) (t : Counts) (wo : List ℕ) 
   pub ran : (p : Rerunning l b body) → Ran (committed-table (p .replica)) body t wo wv
 
 module _ {l : Limits} {b body : List ℕ} (s : Sane l) (m : Local l) (p : Rerunning l b body) where
-  pub rerun-laid : rows.Laid l b
+  pub rerun-laid : committed.Laid l b
   rerun-laid =
       record { whole = holds-long l s b (p .replica) (p .holds); few = omega (arith, get-size l s b (p .replica) (p .holds), p .holds .fits .objects .0); room = m .objects }
 
-  pub rerun-counted : rows.CountsWithin l b
-  rerun-counted = rows.counts-within l s b (p .replica) (p .holds)
+  pub rerun-sorted : committed.BlocksSorted l b
+  rerun-sorted = committed.blocks-sorted l s b (p .replica) (p .holds) (p .versions)
 
   -- the values of the first n objects, as they were gathered
-  module _ {n : ℕ} {vs : List ℤ} (e : rows.Committed l b n vs) where
+  module _ {n : ℕ} {vs : List ℤ} (e : committed.Committed l b n vs) where
     pub values-few : n ≤ length vs
-    values-few = rows.committed-room l s b (p .replica) (p .holds) (p .versions) e
+    values-few = committed.committed-room l s b (p .replica) (p .holds) (p .versions) e
 
     pub values-lent : n ≡ length (take n vs)
     values-lent = sym (length-take-le n vs values-few)
 
     as-many : object-count (take n vs) ≡ length (p .replica .objects)
-    as-many = rows.committed-count l s b (p .replica) (p .holds) (p .versions) e
+    as-many = committed.committed-count l s b (p .replica) (p .holds) (p .versions) e
 
     pub values-formed : is-well-formed capacity (object-count (take n vs)) body ≡ true
     values-formed = ap (λ (k : ℕ). is-well-formed capacity k body) as-many ∙ p .formed
 
     -- their stamps and bounds stand at q
-    module _ {q : ObjectsAt} (eq : q ≡ rows.objects-place l) where
+    module _ {q : ObjectsAt} (eq : q ≡ committed.objects-place l) where
       pub bounds-there : BoundsWithin q (object-count (take n vs)) (length b)
       bounds-there =
           subst (λ (x : ObjectsAt). BoundsWithin x (object-count (take n vs)) (length b)) (sym eq)
-          (subst (λ (k : ℕ). BoundsWithin (rows.objects-place l) k (length b)) (sym as-many) (rows.bounds-within l s b (p .replica) (p .holds)))
+          (subst (λ (k : ℕ). BoundsWithin (committed.objects-place l) k (length b)) (sym as-many) (committed.bounds-within l s b (p .replica) (p .holds)))
 
       pub values-ran : (t : Counts) (ro : List ℕ) (rv : List ℤ) (wo : List ℕ) (wv : List ℤ)
           → InArrays (whole (lent-table (take n vs) q (cells b)) (operations body)) t ro rv wo wv → Ran (committed-table (p .replica)) body t wo wv
       values-ran t ro rv wo wv h =
-          let T = ap (λ (x : ObjectsAt). lent-table (take n vs) x (cells b)) eq ∙ rows.committed-lent l s b (p .replica) (p .holds) (p .versions) e in
+          let T = ap (λ (x : ObjectsAt). lent-table (take n vs) x (cells b)) eq ∙ committed.committed-lent l s b (p .replica) (p .holds) (p .versions) e in
           let k = h ∙ ap (λ (x : Table). whole x (operations body)) T in
           record { outcome = ap (λ (q : Run). q .outcome) k; writes = ap (λ (q : Run). q .writes) k }
 
@@ -204,7 +204,7 @@ module _ {l : Limits} {b c : List ℕ} {i : ℕ} {ps : List ℕ} (s : Sane l) (m
           ∙ well-formed {limit = capacity} {n = length (u .objects)} {b = body-of j} (record { some = form .some; most = omega (arith, form .most, m .operations); whole = form .whole; all = form .all })
 
       abbrev pub rerunning : Rerunning l b (midOf x (x + w - x) c)
-      rerunning = record { replica = u; holds = p .holds; versions = rows.current u (p .shape); formed = lent-formed }
+      rerunning = record { replica = u; holds = p .holds; versions = committed.current u (p .shape); formed = lent-formed }
 
   -- its row begins at cell a
   module _ {a : ℕ} (ea : a ≡ row-at l i) where

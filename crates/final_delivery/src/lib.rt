@@ -83,8 +83,8 @@ fn run_again(
     ensures { λ t. ⌜ Reruns l (now (records .entry)) (now (body .entry)) t (now (wo .exit)) (now (wv .exit)) ⌝ }
 {
     let mut table: [i64; 128] = [0; 128];
-    let n = rows::committed_values(records, l, &mut table);
-    let objects = rows::objects_place(l);
+    let n = committed_table::committed_values(records, l, &mut table);
+    let objects = committed_table::objects_place(l);
     let mut ro: [usize; 16] = [0; 16];
     let mut rv: [i64; 16] = [0; 16];
     execution_interpreter::run(

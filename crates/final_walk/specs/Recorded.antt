@@ -31,7 +31,7 @@ use Rattle.layout.specs.Reading.{get-row}
 use Rattle.layout.specs.RowCells.{row-reads, row-entries}
 use Rattle.rows.specs.RowRun.{entry-in, entries-in, run-in}
 use Rattle.rows.specs.Loading.{run-back}
-use Rattle.rows.specs.Listed.{listed-same}
+use Rattle.execution.specs.Listed.{listed-same}
 use Rattle.final_commit.specs.Positions.{at, fits-at}
 use Rattle.final_walk.specs.Places.{table-in, Inside, Reaching}
 

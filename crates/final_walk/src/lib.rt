@@ -8,7 +8,7 @@ ghost use Rattle.cells.specs.Cells.{cells};
 ghost use Rattle.execution.specs.Run.{matches};
 ghost use Rattle.layout.specs.Offsets.{Sane, size-at};
 ghost use Rattle.layout.specs.Holds.{Holding};
-ghost use Rattle.rows.specs.Committed.{Laid};
+ghost use Rattle.committed_table.specs.Committed.{Laid};
 ghost use Rattle.final_walk.specs.Places.{table-in, Placed, Reaching};
 ghost use Rattle.final_walk.specs.Recorded.{reads-from, writes-from, Lying, LaidOver};
 ghost use Rattle.final_walk.specs.RestartFrom.{Restarts};

@@ -26,6 +26,7 @@ pub mod StampsApart
 pub mod Shape
 pub mod ShapeRuns
 pub mod Held
+pub mod LookedAt
 pub mod ShapeCheck
 pub mod ShapeBounds
 pub mod ShapeParts
@@ -35,3 +36,4 @@ pub mod Cases
 pub mod CallExamples
 pub mod ShapeExamples
 pub mod AnswerExamples
+pub mod LookedAtExamples

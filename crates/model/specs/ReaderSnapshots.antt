@@ -41,78 +41,75 @@ ends l r (query q) = false
 -- ---- readers by number
 
 -- an entry that is not the default is in the list
-some-within : {A : Type 0} (l : List (Option A)) (i : ℕ) (a : A) → getD l i none ≡ some a → i < length l
+pub some-within : {A : Type 0} (l : List (Option A)) (i : ℕ) (a : A) → getD l i none ≡ some a → i < length l
 some-within [] i a e = absurd (Option·none-ne-some a e)
 some-within (x ∷ l) zero a e = omega arith
 some-within (x ∷ l) (suc i) a e = let h = some-within l i a e in omega arith
 
-opens-at : (l : List (Option ℕ)) (i t : ℕ) → getD l i none ≡ some t → any (eqb t) (opens l) ≡ true
+pub opens-at : (l : List (Option ℕ)) (i t : ℕ) → getD l i none ≡ some t → any (eqb t) (opens l) ≡ true
 opens-at [] i t e = absurd (Option·none-ne-some t e)
 opens-at (x ∷ l) zero t e = rw (e, eq-eqb t t refl)
 opens-at (none ∷ l) (suc i) t e = opens-at l i t e
 opens-at (some r ∷ l) (suc i) t e = or-right (eqb t r) (any (eqb t) (opens l)) (opens-at l i t e)
 
--- ---- an open reader and the copy that it answers from
+-- ---- an open reader, its stamp, and the copy that it answers from
 
-record Open (r : ℕ) (copy : List Version) (u : Replica) : Type 0 where
-  since : ℕ
+record Open (r since : ℕ) (copy : List Version) (u : Replica) : Type 0 where
   entry : getD (u .readers) r none ≡ some since
   view : map (as-of since) (u .objects) ≡ copy
 
 module _ (l : Limits) (r : ℕ) where
-  open-reader-opens : (u : Replica) → Invariant l u → refusal l (facts u) (update (open-reader r)) ≡ 0 → Open r (map newest (u .objects)) (call l u (update (open-reader r)) .1)
+  open-reader-opens : (u : Replica) → Invariant l u → refusal l (facts u) (update (open-reader r)) ≡ 0 → Open r (u .timestamp) (map newest (u .objects)) (call l u (update (open-reader r)) .1)
   unfolding call perform causes
   open-reader-opens u v e =
       rw e
       (record {
-        since = u .timestamp;
         entry = getD-set-same (u .readers) r (some (u .timestamp)) none (let k = v .seats in omega (arith, leb-false (l .readers) r (accepted l (facts u) (update (open-reader r)) e .0)));
         view = map-all (as-of (u .timestamp)) newest (u .objects) (all-implies _ _ (as-of-now (u .timestamp)) (u .objects) (v .versions));
       })
 
-  module _ (copy : List Version) (u : Replica) (v : Invariant l u) (h : Open r copy u) where
+  module _ (since : ℕ) (copy : List Version) (u : Replica) (v : Invariant l u) (h : Open r since copy u) where
     is-open : getD (map is-some (u .readers)) r false ≡ true
     is-open = List·getD-map is-some (u .readers) r none ∙ rw (h .entry)
 
-    perform-open : (c : Call) → ends l r c ≡ false → refusal l (facts u) c ≡ 0 → Open r copy (perform l u c .1)
+    perform-open : (c : Call) → ends l r c ≡ false → refusal l (facts u) c ≡ 0 → Open r since copy (perform l u c .1)
     unfolding perform commit facts refusal causes
     perform-open (opening o) q e = absurd (eqb-false (refusal l no-facts (opening o)) 0 q (opening-judged l no-facts (facts u) o ∙ e))
-    perform-open (update (optimistic c s b)) q e = record { since = h .since; entry = h .entry; view = h .view }
-    perform-open (update (execute k)) q e = record { since = h .since; entry = h .entry; view = h .view }
+    perform-open (update (optimistic c s b)) q e = record { entry = h .entry; view = h .view }
+    perform-open (update (execute k)) q e = record { entry = h .entry; view = h .view }
     perform-open (update (final c s)) q e =
         record {
-          since = h .since;
           entry = h .entry;
-          view = as-of-install (suc (u .timestamp)) (opens (u .readers)) writes (u .objects) (h .since) among (let k = v .readers (h .since) among in omega arith) ∙ h .view;
+          view = as-of-install (suc (u .timestamp)) (opens (u .readers)) writes (u .objects) since among (let k = v .readers since among in omega arith) ∙ h .view;
         }
       where
         writes : List Entry
         writes = result (committed-table u) (keyed u c s) .writes
 
-        among : any (eqb (h .since)) (opens (u .readers)) ≡ true
-        among = opens-at (u .readers) r (h .since) (h .entry)
+        among : any (eqb since) (opens (u .readers)) ≡ true
+        among = opens-at (u .readers) r since (h .entry)
     perform-open (update (open-reader k)) q e =
-        record { since = h .since; entry = getD-set-other (u .readers) k r _ none other ∙ h .entry; view = h .view }
+        record { entry = getD-set-other (u .readers) k r _ none other ∙ h .entry; view = h .view }
       where
         other : r ≢ k
         other z =
             let e′ = accepted l (facts u) (update (open-reader k)) e .1 .0 in
             true≢false (sym is-open ∙ rw (← z) at e′)
     perform-open (update (close-reader k)) q e =
-        record { since = h .since; entry = there; view = map-map-same (as-of (h .since)) (prune rs) (u .objects) (λ vs. as-of-prune rs vs (h .since) (opens-at (set (u .readers) k none) r (h .since) there)) ∙ h .view }
+        record { entry = there; view = map-map-same (as-of since) (prune rs) (u .objects) (λ vs. as-of-prune rs vs since (opens-at (set (u .readers) k none) r since there)) ∙ h .view }
       where
         rs : List ℕ
         rs = opens (set (u .readers) k none)
 
-        there : getD (set (u .readers) k none) r none ≡ some (h .since)
+        there : getD (set (u .readers) k none) r none ≡ some since
         there = getD-set-other (u .readers) k r none none (λ z. eqb-false k r q (sym z)) ∙ h .entry
     perform-open (query x) q e = h
 
-    call-open : (c : Call) → ends l r c ≡ false → Open r copy (call l u c .1)
+    call-open : (c : Call) → ends l r c ≡ false → Open r since copy (call l u c .1)
     unfolding call
     call-open c q = go′ (refusal l (facts u) c) refl
       where
-        go′ : (k : ℕ) → refusal l (facts u) c ≡ k → Open r copy (judged u (perform l u c) k .1)
+        go′ : (k : ℕ) → refusal l (facts u) c ≡ k → Open r since copy (judged u (perform l u c) k .1)
         go′ zero e = perform-open c q e
         go′ (suc k) e = h
 
@@ -120,29 +117,43 @@ module _ (l : Limits) (r : ℕ) where
     read-open : (o : ℕ) → o < length copy → call l u (query (read r o)) .0 ≡ version (getD copy o no-version)
     unfolding call perform facts refusal causes
     read-open o k =
-        let seated : r < l .readers = (let z = v .seats in omega (arith, some-within (u .readers) r (h .since) (h .entry))) in
-        let there : o < length (u .objects) = (let z = ap length (h .view) in omega (arith, length-map (u .objects) (as-of (h .since)))) in
+        let seated : r < l .readers = (let z = v .seats in omega (arith, some-within (u .readers) r since (h .entry))) in
+        let there : o < length (u .objects) = (let z = ap length (h .view) in omega (arith, length-map (u .objects) (as-of since))) in
         rw (lt-leb (l .readers) r seated, is-open, lt-leb (length (u .objects)) o there)
-        (rw (h .entry, ← (h .view), List·getD-map (as-of (h .since)) (u .objects) o []))
+        (rw (h .entry, ← (h .view), List·getD-map (as-of since) (u .objects) o []))
 
-  calls-open : (copy : List Version) (cs : List Call) (u : Replica) → Invariant l u → Open r copy u → any (ends l r) cs ≡ false → Open r copy (calls l u cs .1)
+  calls-open : (since : ℕ) (copy : List Version) (cs : List Call) (u : Replica) → Invariant l u → Open r since copy u → any (ends l r) cs ≡ false → Open r since copy (calls l u cs .1)
   unfolding calls
-  calls-open copy [] u v h q = h
-  calls-open copy (c ∷ cs) u v h q =
+  calls-open since copy [] u v h q = h
+  calls-open since copy (c ∷ cs) u v h q =
       let k = neither (ends l r c) (any (ends l r) cs) q in
-      calls-open copy cs (call l u c .1) (call-invariant l u v c) (call-open copy u v h c (k .0)) (k .1)
+      calls-open since copy cs (call l u c .1) (call-invariant l u v c) (call-open since copy u v h c (k .0)) (k .1)
 
-  -- From any replica that keeps the invariant: reader r is opened, and then come any calls that do not end it. A read of it is not refused, and answers the
-  -- version, its value and its stamp, that the object had in the committed state when the reader was opened.
-  pub reads-as-opened : (u : Replica) → Invariant l u → refusal l (facts u) (update (open-reader r)) ≡ 0 → (cs : List Call) → any (ends l r) cs ≡ false → (o : ℕ) → o < length (u .objects)
-      → call l (calls l u (update (open-reader r) ∷ cs) .1) (query (read r o)) .0 ≡ version (newest (getD (u .objects) o []))
-  unfolding calls
-  reads-as-opened u v e cs q o k =
-      let w = call-invariant l u v (update (open-reader r)) in
-      let copy = map newest (u .objects) in
-      let h = calls-open copy cs (call l u (update (open-reader r)) .1) w (open-reader-opens u v e) q in
-      read-open copy (calls l (call l u (update (open-reader r)) .1) cs .1) (calls-invariant l cs (call l u (update (open-reader r)) .1) w) h o (rw (length-map (u .objects) newest) k)
-      ∙ ap version (List·getD-map newest (u .objects) o [])
+  -- From any replica that keeps the invariant: reader r is opened, and then come any calls that do not end it.
+  module _ (u : Replica) (v : Invariant l u) (e : refusal l (facts u) (update (open-reader r)) ≡ 0) (cs : List Call) (q : any (ends l r) cs ≡ false) where
+    abbrev then : Replica
+    then = calls l u (update (open-reader r) ∷ cs) .1
+
+    w : Invariant l (call l u (update (open-reader r)) .1)
+    w = call-invariant l u v (update (open-reader r))
+
+    still-open : Open r (u .timestamp) (map newest (u .objects)) then
+    unfolding calls
+    still-open = calls-open (u .timestamp) (map newest (u .objects)) cs (call l u (update (open-reader r)) .1) w (open-reader-opens u v e) q
+
+    -- it has the stamp that it took
+    pub stamp-stays : getD (then .readers) r none ≡ some (u .timestamp)
+    stamp-stays = still-open .entry
+
+    pub as-many-objects : length (then .objects) ≡ length (u .objects)
+    as-many-objects = sym (length-map (then .objects) (as-of (u .timestamp))) ∙ ap length (still-open .view) ∙ length-map (u .objects) newest
+
+    -- A read of it is not refused, and answers the version, its value and its stamp, that the object had in the committed state when the reader was opened.
+    pub reads-as-opened : (o : ℕ) → o < length (u .objects) → call l then (query (read r o)) .0 ≡ version (newest (getD (u .objects) o []))
+    unfolding calls
+    reads-as-opened o k =
+        read-open (u .timestamp) (map newest (u .objects)) then (calls-invariant l cs (call l u (update (open-reader r)) .1) w) still-open o (rw (length-map (u .objects) newest) k)
+        ∙ ap version (List·getD-map newest (u .objects) o [])
 
 -- the same for a list that starts with an opening: `before` the reader is opened and `after`
 pub reader-snapshot : (l : Limits) (s : Start) → Dated s → (before after : List Call) (r o : ℕ)

@@ -1,10 +1,10 @@
--- "For an untouched object this is the start stamp": an object that no accepted call stores keeps its newest version, and so the one that it was opened
--- with. Assumes nothing.
+-- How many accepted calls store an object. "For an untouched object this is the start stamp": where none does, its newest version stays, and so is the one
+-- that it was opened with. Assumes nothing.
 use mathlib.Core.Path.{_≡_, refl, sym, ap, _∙_}
-use mathlib.Core.Bool.{Bool, true, false, _&&_, _||_, true≢false}
+use mathlib.Core.Bool.{Bool, true, false, cond, _&&_, true≢false}
 use mathlib.Core.Option.{Option, none, some}
 use mathlib.Core.List.{List, [], _∷_, map}
-use Prim.Native.Nat.{ℕ, zero, suc, _<_}
+use Prim.Native.Nat.{ℕ, zero, suc, _+_, _<_}
 use lib.IntN.{ℤ}
 use native.Mathlib.Omega.{arith}
 use lib.Dec.{eqb, ltb}
@@ -19,7 +19,6 @@ use Rattle.model.specs.Serial.{is-some}
 use Rattle.model.specs.Replica.{Replica, newest, opens, prune, committed-table, keyed, result, facts, install, commit, opened, perform, call, calls}
 use Rattle.model.specs.ListLaws.{length-mapi, getD-mapi, map-map-same}
 use Rattle.model.specs.VersionLaws.{replaced, overlay, newest-at, newest-prune, newest-install}
-use Rattle.model.specs.Tests.{neither}
 
 -- whether a call that is accepted stores object o: a final delivery with o among its writes; an opening stores all
 abbrev pub stores : Replica → ℕ → Call → Bool
@@ -30,6 +29,10 @@ stores u o (update (final c s)) = is-some (lookup (result (committed-table u) (k
 stores u o (update (open-reader r)) = false
 stores u o (update (close-reader r)) = false
 stores u o (query q) = false
+
+-- a call that stores counts once
+abbrev pub once : Bool → ℕ
+once b = cond b 1 0
 
 overlay-unwritten : (t : ℕ) (writes : List Entry) (vs : List Version) (o : ℕ) → is-some (lookup writes o) ≡ false → getD (overlay t writes vs) o no-version ≡ getD vs o no-version
 unfolding overlay
@@ -49,10 +52,10 @@ overlay-unwritten t writes vs o h = go′ (ltb o (length vs)) refl
         ∙ sym (List·getD-eq-default vs no-version (omega arith))
 
 module _ (l : Limits) (o : ℕ) where
-  -- whether one of a list of calls does
-  unfoldable pub touched : Replica → List Call → Bool
-  touched u [] = false
-  touched u (c ∷ cs) = (eqb (refusal l (facts u) c) 0 && stores u o c) || touched (call l u c .1) cs
+  -- how many of a list of calls are accepted and store it
+  unfoldable pub store-count : Replica → List Call → ℕ
+  store-count u [] = 0
+  store-count u (c ∷ cs) = once (eqb (refusal l (facts u) c) 0 && stores u o c) + store-count (call l u c .1) cs
 
   abbrev its-newest : Replica → Version
   its-newest u = newest (getD (u .objects) o [])
@@ -87,15 +90,17 @@ module _ (l : Limits) (o : ℕ) where
       go′ zero h = newest-performed u c h
       go′ (suc k) h = refl
 
-  pub untouched : (u : Replica) (cs : List Call) → touched u cs ≡ false → its-newest (calls l u cs .1) ≡ its-newest u
-  unfolding calls touched
+  pub untouched : (u : Replica) (cs : List Call) → store-count u cs ≡ 0 → its-newest (calls l u cs .1) ≡ its-newest u
+  unfolding calls store-count
   untouched u [] h = refl
-  untouched u (c ∷ cs) h =
-      let k = neither (eqb (refusal l (facts u) c) 0 && stores u o c) (touched (call l u c .1) cs) h in
-      untouched (call l u c .1) cs (k .1) ∙ newest-called u c (k .0)
+  untouched u (c ∷ cs) h = untouched (call l u c .1) cs (omega arith) ∙ newest-called u c (no-store (eqb (refusal l (facts u) c) 0 && stores u o c) h)
+    where
+      no-store : (b : Bool) → once b + store-count (call l u c .1) cs ≡ 0 → b ≡ false
+      no-store true e = absurd (omega arith)
+      no-store false e = refl
 
   -- from an opening on: its version is the one that it was opened with
-  pub untouched-start : (s : Start) (cs : List Call) → touched (opened l s) cs ≡ false → its-newest (calls l (opened l s) cs .1) ≡ getD (s .versions) o no-version
+  pub untouched-start : (s : Start) (cs : List Call) → store-count (opened l s) cs ≡ 0 → its-newest (calls l (opened l s) cs .1) ≡ getD (s .versions) o no-version
   unfolding opened
   untouched-start s cs h =
       untouched (opened l s) cs h ∙ newest-single (s .versions) o
@@ -107,7 +112,7 @@ module _ (l : Limits) (o : ℕ) where
 
   -- opened by values: the start stamp
   pub untouched-stamp : (n : ℕ) (vs los his : List ℤ) (t : ℕ) (cs : List Call) → o < length vs
-      → (let s = start-of (by-values n vs los his t) in touched (opened l s) cs ≡ false → its-newest (calls l (opened l s) cs .1) .stamp ≡ t)
+      → (let s = start-of (by-values n vs los his t) in store-count (opened l s) cs ≡ 0 → its-newest (calls l (opened l s) cs .1) .stamp ≡ t)
   untouched-stamp n vs los his t cs low h =
       ap (λ (v : Version). v .stamp) (untouched-start (start-of (by-values n vs los his t)) cs h) ∙ start-stamp vs o low
     where

@@ -26,7 +26,7 @@ use Rattle.layout.specs.Lawful.{all-below}
 use Rattle.layout.specs.Printable.{ValueFits, EntryFits, RowFits, lawful-row}
 use Rattle.layout.specs.RowCells.{row-register, row-reads, row-entries, row-object, row-value}
 use Rattle.rows.specs.RowRun.{entry-in, entries-in, register-in, registers-in, run-in, Readable, Loaded}
-use Rattle.rows.specs.Listed.{listed-same, listed-of, entries-same, fill-next}
+use Rattle.execution.specs.Listed.{listed-same, listed-of, entries-same, fill-next}
 
 -- ---- the code's stores
 

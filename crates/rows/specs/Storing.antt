@@ -24,7 +24,7 @@ use Rattle.layout.specs.Layout as layout
 use Rattle.layout.specs.Offsets.{counter-at, outcome-at, register-at, reads-at, entries-at, entry-at}
 use Rattle.layout.specs.RowCells.{array-cells}
 use Rattle.rows.specs.RowRun.{Behind, front, entry-cells, Stored}
-use Rattle.rows.specs.Listed.{length-entries}
+use Rattle.execution.specs.Listed.{length-entries}
 
 -- ---- entries and their cells
 

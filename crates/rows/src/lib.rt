@@ -1,8 +1,5 @@
-// One row: its run read into local arrays and written back, once each; its writes laid over a table as they stand. And the committed state: its
-// values as a local table, and where its stamps and bounds stand.
+// One row: its run read into local arrays and written back, once each; its writes laid over a table as they stand.
 use execution::Counts;
-use execution::ObjectsAt;
-use model::Limits;
 ghost use mathlib.Core.Path.{_≡_};
 ghost use mathlib.Core.Bool.{true};
 ghost use mathlib.Core.List.{map};
@@ -17,7 +14,6 @@ ghost use Rattle.execution.specs.RunShape.{every, sound};
 ghost use Rattle.execution.specs.Arrays.{capacity, entries, Room};
 ghost use Rattle.layout.specs.Offsets.{Sane, register-at, reads-at, entry-at};
 ghost use Rattle.rows.specs.RowRun.{entries-in, registers-in, run-in, Readable, Loaded, front, entry-cells, Behind, Storable, Stored};
-ghost use Rattle.rows.specs.Committed.{Laid, CountsWithin, Committed, objects-place};
 
 // The registers of a row. The loop fills the array: the places passed have their cells' values.
 fn load_registers(row: &[u8], registers: &mut [i64; 4])
@@ -92,41 +88,6 @@ pub fn overlay_writes(row: &[u8], table: &mut [i64])
         let at = layout::ROW_FIRST_ENTRY + (reads + i) * layout::ENTRY_WIDTH;
         let o = cells::get(row, at) as usize;
         table[o] = cells::get_signed(row, at + 1);
-    }
-}
-
-// The committed state: of each object the value that a reader opened now would see, by the lookup that readers use; the objects passed have theirs.
-// The number of objects. Their stamps are not gathered: they stand in the record area, which is lent beside the values.
-pub fn committed_values(records: &[u8], l: Limits, table: &mut [i64; 128]) -> usize
-    requires { ⌜ Sane l × Laid l (now records) × CountsWithin l (now records) × (length (now table) ≡ 128) ⌝ }
-    ensures { λ n. ⌜ Committed l (now (records .entry)) n (now (table .exit)) ⌝ }
-{
-    let n = cells::get(records, layout::size_at(l)) as usize;
-    let timestamp = cells::get(records, layout::TIMESTAMP);
-    let block = layout::bounds_at(l) * 8;
-    let width = layout::object_width(l) * 8;
-    let mut first = layout::object_at(l, 0) * 8;
-    let mut i = 0;
-    while i < n {
-        let end = first + block;
-        let value = versions::lookup(&records[first..end], timestamp).value;
-        table[i] = value;
-        first += width;
-        i += 1;
-    }
-    n
-}
-
-// Where the stamps and the bounds of the objects stand in the record area.
-pub fn objects_place(l: Limits) -> ObjectsAt
-    requires { ⌜ Sane l ⌝ }
-    ensures { λ p. ⌜ p ≡ objects-place l ⌝ }
-{
-    let first = layout::object_at(l, 0);
-    ObjectsAt {
-        stamp: first + layout::NEWEST_STAMP,
-        lower: first + layout::bounds_at(l),
-        stride: layout::object_width(l),
     }
 }
 

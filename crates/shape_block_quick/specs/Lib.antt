@@ -1,5 +1,2 @@
--- Quick: what the contracts of one object's quick test say, and the laws on its versions. Difference: its values inside the bounds, by one difference
--- each. ObjectTests: its block and its bounds together.
+-- What the contracts of one block's quick test say, and the laws behind them.
 pub mod Quick
-pub mod Difference
-pub mod ObjectTests

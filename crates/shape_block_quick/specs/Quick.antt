@@ -15,20 +15,16 @@ use Rattle.cells.specs.Cells.{cells}
 use Rattle.cells.specs.Zeros.{zeros}
 use Rattle.model.specs.Lists.{any}
 use Rattle.model.specs.ListLaws.{any-has, or-left, or-right}
-use Rattle.versions.specs.Block.{width, versions-in, block-ok, object-ok, between, lower, lowest, chain, chained}
+use Rattle.versions.specs.Block.{width, versions-in, block-ok, between, lower, lowest, chain, chained}
 use Rattle.versions.specs.OnePass.{le-or-lt, lowest-le}
 use Rattle.versions.specs.BlockLoops.{ok-none, ok-many, ok-late, ok-used, ok-chain, ok-single, ok-single-no, chain-next, chain-loose, chain-end}
 use Rattle.shape_readers.specs.OpenReaders.{Open, Known, open-in}
 
 -- ---- what contracts say
 
--- the answer true is sound, whichever readers' cells d has: on one block
+-- the answer true is sound, whichever readers' cells d has
 abbrev pub Sound : ℕ → ℕ → ℕ → List ℕ → List ℕ → Bool → Type 0
 Sound n timestamp low d bs t = (rc : List ℕ) → Known rc d → low ≡ lowest (timestamp + 1) rc → t ≡ true → block-ok n timestamp rc (cells bs) ≡ true
-
--- and on one object, its block and its bounds
-abbrev pub ObjectSound : ℕ → ℕ → ℕ → List ℕ → List ℕ → Bool → Type 0
-ObjectSound n timestamp low d os t = (rc : List ℕ) → Known rc d → low ≡ lowest (timestamp + 1) rc → t ≡ true → object-ok n timestamp rc (cells os) ≡ true
 
 -- ---- a version held
 

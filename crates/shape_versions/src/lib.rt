@@ -109,7 +109,7 @@ fn object_ok(object: &[u8], snapshots: &[u8], readers: usize, timestamp: u64, lo
 {
     let end = versions::width(readers) * 8;
     if block_ok(&object[..end], snapshots, readers, timestamp, low) {
-        return shape_block_quick::bounds_ok(object, readers);
+        return shape_bounds::bounds_ok(object, readers);
     }
     false
 }
@@ -174,7 +174,7 @@ fn objects_alone(blocks: &[u8], readers: usize, n: usize, timestamp: u64) -> boo
     let mut left = n;
     while 0 < left {
         let end = at + w;
-        if shape_block_quick::alone(&blocks[at..end], readers, timestamp) {
+        if shape_versions_quick::alone(&blocks[at..end], readers, timestamp) {
             at = end;
             left -= 1;
         } else {

@@ -9,6 +9,7 @@ use native.Mathlib.Omega.{arith}
 use lib.Dec.{eqb, leb}
 use lib.ListN.{length, getD, set, List·getD-map}
 use borrow.Author.Tests.{le-leb, lt-leb}
+use borrow.Rule.Slice.PartMut.{midOf}
 use Rattle.cells.specs.Cells.{cells, Put}
 use Rattle.model.specs.declared.Limits.{Limits}
 use Rattle.model.specs.Calls.{Call, Query, Yield, open-reader, read, close-reader, Answer, refused, yielded, done, version, causes, refusal, judged, last-timestamp}
@@ -26,8 +27,8 @@ use Rattle.layout.specs.Holds.{Holds, with-readers}
 use Rattle.layout.specs.Reading.{get-timestamp, get-reader}
 use Rattle.layout.specs.Writing.{put-reader}
 use Rattle.layout.specs.Printable.{ReaderFits}
-use Rattle.versions.specs.Block.{seen-from}
-use Rattle.layout.specs.LentBlock.{lent-object}
+use Rattle.versions.specs.Block.{seen-from, SortedBlock}
+use Rattle.layout.specs.LentBlock.{lent-object, lent-sorted}
 use Rattle.layout.specs.Contract.{Answered}
 use Rattle.snapshots.specs.ClosePruning.{Pruned}
 
@@ -125,15 +126,22 @@ module _ (l : Limits) (u : Replica) (r : ℕ) where
   unfolding refusal causes facts
   close-refusal = rw by-reader
 
--- the stamp of what is seen in object o's block is one of the replica's, so that 32 bits hold it
-pub seen-small : (l : Limits) (s : Sane l) (b : List ℕ) (u : Replica) → Holds l b u → Shape l u → (o : ℕ) → o < length (u .objects) → (a k : ℕ) → a ≡ object-at l o → k ≡ versions-width l * 8
-    → (t : ℕ) → seen-from b t k (a * 8) .stamp < 2 ^ 32
-unfolding last-timestamp
-seen-small l s b u h g o q a k ea ek t =
-    let shaped = all-in (VersionsShape (u .timestamp) (opens (u .readers))) (u .objects) o [] (g .versions) q in
-    let vs = getD (u .objects) o [] in
-    rw (lent-object l s b u h o q a k ea ek)
-    (omega (arith, as-of-one (λ (v : Version). v .stamp ≤ u .timestamp) t vs (omega arith) (none-later (u .timestamp) vs (shaped .bound)), g .encoded .timestamp))
+-- object o's block is lent: k bytes from cell a on
+module _ (l : Limits) (s : Sane l) (b : List ℕ) (u : Replica) (h : Holds l b u) (g : Shape l u) (o : ℕ) (q : o < length (u .objects)) (a k : ℕ) (ea : a ≡ object-at l o) (ek : k ≡ versions-width l * 8) where
+  shaped : VersionsShape (u .timestamp) (opens (u .readers)) (getD (u .objects) o [])
+  shaped = all-in (VersionsShape (u .timestamp) (opens (u .readers))) (u .objects) o [] (g .versions) q
+
+  -- a lookup may go through it
+  pub read-sorted : SortedBlock (midOf (a * 8) k b)
+  read-sorted = lent-sorted l s b u h o q a k ea ek (shaped .order)
+
+  -- the stamp of what is seen in it is one of the replica's, so that 32 bits hold it
+  pub seen-small : (t : ℕ) → seen-from b t k (a * 8) .stamp < 2 ^ 32
+  unfolding last-timestamp
+  seen-small t =
+      let vs = getD (u .objects) o [] in
+      rw (lent-object l s b u h o q a k ea ek)
+      (omega (arith, as-of-one (λ (v : Version). v .stamp ≤ u .timestamp) t vs (omega arith) (none-later (u .timestamp) vs (shaped .bound)), g .encoded .timestamp))
 
 module _ (l : Limits) (s : Sane l) (b : List ℕ) (u : Replica) (h : Holds l b u) (r : ℕ) where
   -- ---- no such reader

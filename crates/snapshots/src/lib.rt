@@ -50,7 +50,8 @@ pub fn read(records: &[u8], l: Limits, reader: u32, object: u32) -> Reading
     let end = first + layout::bounds_at(l) * 8;
     let since = cell - 1;
     let seen = versions::lookup(&records[first..end], since);
-    Reading::Version(seen.value, CommitTimestamp(seen.stamp as u32))
+    let stamp = seen.stamp as u32;
+    Reading::Version(seen.value, CommitTimestamp(stamp))
 }
 
 // The versions that no open reader holds any more go, now that the reader with this cell is closed. Pruning takes the readers' cells beside the

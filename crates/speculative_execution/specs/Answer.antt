@@ -26,7 +26,7 @@ use Rattle.layout.specs.Bodies.{same-bodies}
 use Rattle.layout.specs.Fit.{fit, shape-fits, fit-holds, fit-bodies, fit-shape}
 use Rattle.layout.specs.Act.{act}
 use Rattle.layout.specs.Areas.{act-refused, act-accepted}
-use Rattle.rows.specs.Committed.{Laid, CountsWithin, Committed, current, counts-within, committed-count, committed-back}
+use Rattle.committed_table.specs.Committed.{Laid, BlocksSorted, Committed, current, blocks-sorted, committed-count, committed-back}
 use Rattle.speculative_execution.specs.Passing.{counted-most, all-worked, after-work, Worked, accepted, new-shape}
 use Rattle.speculative_execution.specs.LentAreas.{Begun}
 
@@ -86,8 +86,8 @@ module _ {l : Limits} {records bodies : List ℕ} (k : Asked l records bodies) (
   pub readable : Laid l records
   readable = record { whole = holds-long l s records u holds; few = omega (arith, get-size l s records u holds, shape .few-objects); room = k .objects }
 
-  pub counted-blocks : CountsWithin l records
-  counted-blocks = counts-within l s records u holds
+  pub sorted-blocks : BlocksSorted l records
+  sorted-blocks = blocks-sorted l s records u holds (current u shape)
 
   -- the committed table, as the local array has it, is the first one
   module _ {n : ℕ} {vs : List ℤ} (v : Committed l records n vs) (c : ℕ) (low : c ≤ most-work) where

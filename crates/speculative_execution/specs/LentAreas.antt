@@ -26,7 +26,7 @@ use Rattle.layout.specs.Reading.{get-pending}
 use Rattle.layout.specs.Bodies.{body-part, body-size, body-span}
 use Rattle.layout.specs.Fit.{fit, fit-holds, fit-bodies, fit-shape}
 use Rattle.layout.specs.Printable.{few-pending}
-use Rattle.rows.specs.Committed.{current, objects-place, beside-back, bounds-within}
+use Rattle.committed_table.specs.Committed.{current, objects-place, beside-back, bounds-within}
 use Rattle.speculative_turn.specs.declared.Advanced.{Advanced}
 use Rattle.speculative_turn.specs.Advance.{Ready, Leaves}
 use Rattle.speculative_turn.specs.AreaRow.{beside-in, ReadyAt, LeavesAt}

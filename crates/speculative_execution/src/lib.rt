@@ -30,7 +30,7 @@ fn execute_pending(
     ensures { λ r. ⌜ Worked l (parse l (now (records .entry), now (bodies .entry))) budget (now (records .exit)) (r .operations) (r .finished) ⌝ }
 {
     let pending = cells::get(records, layout::pending_at(l)) as usize;
-    let objects = rows::objects_place(l);
+    let objects = committed_table::objects_place(l);
     let mut left = budget;
     let mut i = 0;
     while i < pending {
@@ -75,7 +75,7 @@ pub fn execute(records: &mut [u8], bodies: &[u8], l: Limits, count: u32) -> Exec
     }
     let budget = count as usize;
     let mut table: [i64; 128] = [0; 128];
-    let n = rows::committed_values(records, l, &mut table);
+    let n = committed_table::committed_values(records, l, &mut table);
     let t = execute_pending(records, bodies, l, &mut table[..n], budget);
     Execution::Executed(t.operations as u32, t.finished as u32)
 }

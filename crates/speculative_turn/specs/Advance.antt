@@ -22,7 +22,7 @@ use Rattle.layout.specs.Layout.{Row, row}
 use Rattle.layout.specs.Offsets.{entry-at}
 use Rattle.layout.specs.Printable.{RowFits}
 use Rattle.rows.specs.RowRun.{run-in, Readable, Loaded, Storable, Stored}
-use Rattle.rows.specs.Listed.{length-entries}
+use Rattle.execution.specs.Listed.{length-entries}
 use Rattle.rows.specs.Loading.{row-run, row-length}
 use Rattle.rows.specs.Storing.{stored-back}
 use Rattle.speculative_turn.specs.declared.Advanced.{Advanced}

@@ -4,10 +4,10 @@
 -- n is the number of readers, m that of objects, rc are the readers' cells, bc the cells of one block, oc those of one object, cs those of objects one
 -- after another.
 use mathlib.Core.Path.{_≡_}
-use mathlib.Core.Bool.{Bool, cond, _&&_}
+use mathlib.Core.Bool.{Bool, true, cond, _&&_}
 use mathlib.Core.Option.{Option, none, some}
 use mathlib.Core.List.{List, [], _∷_, _++_, map}
-use Prim.Native.Nat.{ℕ, zero, suc, _+_, _*_, _-_, _<_, _^_}
+use Prim.Native.Nat.{ℕ, zero, suc, _+_, _*_, _-_, _≤_, _<_, _^_}
 use lib.Dec.{leb, ltb}
 use lib.ListN.{length, getD, take, drop, replicate}
 use mir.Syntax.{w64}
@@ -20,7 +20,8 @@ use Rattle.execution.specs.Bounds.{Bounds, ordered}
 use Rattle.model.specs.Lists.{any, all}
 use Rattle.model.specs.Serial.{Version}
 use Rattle.model.specs.Replica.{opens, as-of}
-use Rattle.model.specs.Shape.{versions-inside}
+use Rattle.model.specs.LookedAt.{looked-at}
+use Rattle.model.specs.Shape.{falling, versions-inside}
 use Rattle.model.specs.ShapeCheck.{versions-shaped}
 use Rattle.versions.specs.declared.Seen.{Seen}
 
@@ -142,6 +143,15 @@ version-seen x = record { stamp = x .stamp; value = x .value }
 -- what a reader of stamp t sees in a block that is lent out of the bytes b: k bytes from byte f on
 abbrev pub seen-from : List ℕ → ℕ → ℕ → ℕ → Version
 seen-from b t k f = as-of t (block-versions (cells (midOf f k b)))
+
+-- and how many of its versions are looked at for that
+abbrev pub looked-at-from : List ℕ → ℕ → ℕ → ℕ → ℕ
+looked-at-from b t k f = looked-at t (block-versions (cells (midOf f k b)))
+
+-- the block lent to a lookup: it has room for as many versions as it counts, and their stamps fall
+pub record SortedBlock (bs : List ℕ) : Type 0 where
+  pub room : (1 + 2 * getD (cells bs) 0 0) * 8 ≤ length bs
+  pub order : falling (block-versions (cells bs)) ≡ true
 
 -- the areas lent: the readers' cells and one block
 pub record Lent (n : ℕ) (rs bs : List ℕ) : Type 0 where

@@ -12,8 +12,9 @@ use borrow.Author.Tests.{lt-ltb, le-ltb, le-leb, lt-leb, leb-false}
 use Rattle.cells.specs.Cells.{cells}
 use Rattle.cells.specs.CellLaws.{cells-next, cells-end, cells-rest, cells-take, cells-drop}
 use Rattle.cells.specs.Zeros.{zeros}
-use Rattle.model.specs.Start.{no-version}
 use Rattle.model.specs.Replica.{as-of}
+use Rattle.model.specs.LookedAt.{seen-index}
+use Rattle.model.specs.Serial.{Version}
 use Rattle.model.specs.ShapeCheck.{versions-shaped}
 use Rattle.versions.specs.Block.{width, object-cells, version-of, versions-in, block-versions, stamps, chunks, framed, block-ok, object-ok, blocks-ok, between, lowest, chain, chained}
 use Rattle.versions.specs.OnePass.{versions-chain, lowest-below}
@@ -53,21 +54,33 @@ versions-step (suc n) k cs h =
 
 -- ---- lookup
 
-module _ (n k r : ℕ) (cs : List ℕ) (s : ℕ) (g : s ≡ getD cs k 0) (h : 0 < n) where
-  pub look-here : s ≤ r → as-of r (versions-in n (drop k cs)) ≡ version-of s (getD cs (k + 1) 0)
-  look-here l = rw (versions-step n k cs h, ← g, le-leb s r l)
+-- the versions of count that are left, behind those that are above the stamp
+abbrev pub left : ℕ → ℕ → List ℕ → List Version
+left count above cs = versions-in (count - above) (drop (1 + 2 * above) cs)
 
-  pub look-on : r < s → as-of r (versions-in n (drop k cs)) ≡ as-of r (versions-in (n - 1) (drop (k + 2) cs))
-  look-on l = rw (versions-step n k cs h, ← g, lt-leb s r l)
-
-pub look-start : (cs : List ℕ) (r k : ℕ) → k ≡ getD cs 0 0 → as-of r (block-versions cs) ≡ as-of r (versions-in k (drop 1 cs))
+pub left-first : (count : ℕ) (cs : List ℕ) → count ≡ getD cs 0 0 → block-versions cs ≡ left count 0 cs
 unfolding block-versions
-look-start cs r k e = rw e
+left-first count cs e = let n : count - 0 ≡ count = omega arith in rw (n, e)
 
-pub look-end : (n r : ℕ) (cs : List ℕ) → n ≤ 0 → as-of r (versions-in n cs) ≡ no-version
+pub left-none : (count above : ℕ) (cs : List ℕ) → count ≤ above → left count above cs ≡ []
 unfolding versions-in
-look-end zero r cs h = refl
-look-end (suc n) r cs h = absurd (omega arith)
+left-none count above cs h = let n : count - above ≡ 0 = omega arith in rw n
+
+-- s is the next one's stamp, in cell k
+module _ (r count above : ℕ) (cs : List ℕ) (h : above < count) (k s : ℕ) (ek : k ≡ 1 + 2 * above) (g : s ≡ getD cs k 0) where
+  next : left count above cs ≡ version-of s (getD cs (k + 1) 0) ∷ left count (above + 1) cs
+  next =
+      let n : count - above - 1 ≡ count - (above + 1) = omega arith in
+      let m : k + 2 ≡ 1 + 2 * (above + 1) = omega arith in
+      rw (← ek, g, ← m, ← n) (versions-step (count - above) k cs (omega arith))
+
+  -- it is the one that is seen
+  pub look-here : s ≤ r → (as-of r (left count above cs) ≡ version-of s (getD cs (k + 1) 0)) × (seen-index r (left count above cs) ≡ 0)
+  look-here l = rw (next, le-leb s r l) (refl, refl)
+
+  -- it is above
+  pub look-on : r < s → (as-of r (left count above cs) ≡ as-of r (left count (above + 1) cs)) × (seen-index r (left count above cs) ≡ suc (seen-index r (left count (above + 1) cs)))
+  look-on l = rw (next, lt-leb s r l) (refl, refl)
 
 -- ---- chain_ok
 

@@ -3,12 +3,13 @@
 // A reader's cell is 0 where it is closed, else its stamp + 1: snapshots are the cells of all readers.
 ghost use mathlib.Core.Path.{_≡_};
 ghost use mathlib.Core.Bool.{_&&_};
-ghost use Prim.Native.Nat.{_+_, _*_, _^_, _<_, _≤_};
+ghost use Prim.Native.Nat.{_*_, _^_, _<_};
 ghost use lib.Dec.{ltb, leb};
-ghost use lib.ListN.{length, getD};
+ghost use lib.ListN.{length};
 ghost use Rattle.cells.specs.Cells.{cells};
 ghost use Rattle.model.specs.Replica.{as-of};
-ghost use Rattle.versions.specs.Block.{width as block-width, object-cells as cells-of-object, block-versions, between, version-seen};
+ghost use Rattle.model.specs.LookedAt.{looked-at};
+ghost use Rattle.versions.specs.Block.{width as block-width, object-cells as cells-of-object, block-versions, SortedBlock, between, version-seen};
 
 // The cells of a block: a count, and a stamp and a value for one version more than there are readers.
 pub fn width(readers: usize) -> usize
@@ -48,30 +49,39 @@ pub fn some_between(snapshots: &[u8], readers: usize, s: u64, upper: u64) -> boo
     false
 }
 
-// A version as it is seen.
+// A version as it is seen, and how many were looked at for it.
 pub struct Seen {
     pub stamp: u64,
     pub value: i64,
+    pub looked: usize,
 }
 
-// What a reader of this stamp sees: the newest version whose stamp is not above it. Goes from the newest version down, k being the cell of the next
-// one's stamp; zeros where all are above, which no block that passed the shape check has for an open reader's stamp or the replica's own.
+// What a reader of this stamp sees: the newest version whose stamp is not above it. Goes from the newest version down, counting those above, and ends at
+// the first that is not; where all are, stamp and value are 0. No block that passed the shape check has that for an open reader's stamp or the replica's own.
 pub fn lookup(block: &[u8], stamp: u64) -> Seen
-    requires { ⌜ (1 + 2 * getD (cells (now block)) 0 0) * 8 ≤ length (now block) ⌝ }
-    ensures { λ r. ⌜ version-seen r ≡ as-of stamp (block-versions (cells (now (block .entry)))) ⌝ }
+    requires { ⌜ SortedBlock (now block) ⌝ }
+    ensures seen { λ r. ⌜ version-seen r ≡ as-of stamp (block-versions (cells (now (block .entry)))) ⌝ }
+    ensures looked { λ r. ⌜ r .looked ≡ looked-at stamp (block-versions (cells (now (block .entry)))) ⌝ }
 {
-    let mut left = cells::get(block, 0) as usize;
-    let mut k = 1;
-    while 0 < left {
+    let count = cells::get(block, 0) as usize;
+    let mut above = 0;
+    while above < count {
+        let k = 1 + 2 * above;
         let s = cells::get(block, k);
         if s <= stamp {
+            let looked = above + 1;
             return Seen {
                 stamp: s,
                 value: cells::get_signed(block, k + 1),
+                looked,
             };
         }
-        k += 2;
-        left -= 1;
+        above += 1;
     }
-    Seen { stamp: 0, value: 0 }
+    let looked = count + 1;
+    Seen {
+        stamp: 0,
+        value: 0,
+        looked,
+    }
 }

@@ -1,6 +1,6 @@
 -- `final_delivery::run_again` meets its contract: the values of the committed state are gathered, and the body is run on them, stamps and bounds being lent.
 use mathlib.Core.Path.{refl}
-use Rattle.final_delivery.specs.Decide.{rerun-laid, rerun-counted, values-few, values-lent, values-formed, bounds-there, values-ran}
+use Rattle.final_delivery.specs.Decide.{rerun-laid, rerun-sorted, values-few, values-lent, values-formed, bounds-there, values-ran}
 use Rattle.final_delivery.proofs.run_again.Statement.{statement}
 use Rattle.final_delivery.proofs.run_again.Tie as tie
 
@@ -15,7 +15,7 @@ gathered k = k .before
 committed-values-requires : tie.Need-committed-values-requires
 committed-values-requires c κs =
     let s = c .before .before .before in
-    (s .pre .0 .0, rerun-laid (s .pre .0 .0) (s .pre .0 .1) (s .pre .1 .0), rerun-counted (s .pre .0 .0) (s .pre .0 .1) (s .pre .1 .0), refl)
+    (s .pre .0 .0, rerun-laid (s .pre .0 .0) (s .pre .0 .1) (s .pre .1 .0), rerun-sorted (s .pre .0 .0) (s .pre .0 .1) (s .pre .1 .0), refl)
 
 objects-place-requires : tie.Need-objects-place-requires
 objects-place-requires c κs = start c .pre .0 .0

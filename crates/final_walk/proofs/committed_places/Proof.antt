@@ -8,8 +8,8 @@ use borrow.Author.Needs.{needs}
 use denote.Ref.{now}
 use Rattle.cells.specs.Cells.{cells}
 use Rattle.layout.specs.Offsets.{size-at, object-at, value-at, upper-at}
-use Rattle.rows.specs.Committed.{object-cell-inside, object-along, size-inside}
-use Rattle.rows.specs.Listed.{fill-next}
+use Rattle.committed_table.specs.Committed.{object-cell-inside, object-along, size-inside}
+use Rattle.execution.specs.Listed.{fill-next}
 use Rattle.final_walk.proofs.committed_places.Statement.{statement}
 use Rattle.final_walk.proofs.committed_places.Tie as tie
 

@@ -10,7 +10,7 @@ use Rattle.cells.specs.Cells.{cells}
 use Rattle.cells.specs.Signed.{told}
 use Rattle.operation.specs.Body.{register-count}
 use Rattle.rows.specs.RowRun.{register-in, registers-in}
-use Rattle.rows.specs.Listed.{fill-next, all-listed}
+use Rattle.execution.specs.Listed.{fill-next, all-listed}
 use Rattle.rows.proofs.load_registers.Statement.{statement}
 use Rattle.rows.proofs.load_registers.Tie as tie
 

@@ -3,7 +3,8 @@ use mathlib.Core.Path.{sym, _∙_}
 use native.Mathlib.Omega.{arith}
 use borrow.Author.Needs.{needs}
 use Rattle.cells.specs.Cells.{cells}
-use Rattle.shape_block_quick.specs.ObjectTests.{block-length, object-no, object-by, object-room, object-some}
+use Rattle.shape_bounds.specs.ObjectBounds.{block-length}
+use Rattle.shape_versions_quick.specs.ObjectTests.{object-no, object-by, object-room, object-some}
 use Rattle.shape_versions.proofs.object_ok.Statement.{statement}
 use Rattle.shape_versions.proofs.object_ok.Tie as tie
 

@@ -7,7 +7,6 @@ use lib.IntN.{ℤ}
 use lib.Signed.{mag}
 use lib.ListN.{length}
 use borrow.Author.Needs.{needs}
-use borrow.Rule.Slice.PartMut.{mid-len}
 use Rattle.cells.specs.Signed.{told}
 use Rattle.model.specs.Serial.{Version}
 use Rattle.model.specs.Replica.{Replica}
@@ -15,10 +14,9 @@ use Rattle.model.specs.Calls.{read}
 use Rattle.layout.specs.Offsets.{reader-at, size-at, object-width, versions-width, object-at}
 use Rattle.layout.specs.Holds.{Holds}
 use Rattle.layout.specs.Reading.{cell-inside, size-read, size-few, object-inside}
-use Rattle.layout.specs.LentBlock.{lent-count}
 use Rattle.versions.specs.Round.{seen-fits}
 use Rattle.layout.specs.Contract.{met-beside}
-use Rattle.snapshots.specs.ReaderAnswers.{read-bodies, read-no-reader, read-not-open, read-no-object, seen-small, read-done}
+use Rattle.snapshots.specs.ReaderAnswers.{read-bodies, read-no-reader, read-not-open, read-no-object, read-sorted, seen-small, read-done}
 use Rattle.snapshots.proofs.read.Statement.{statement}
 use Rattle.snapshots.proofs.read.Tie as tie
 
@@ -119,15 +117,14 @@ lookup-requires : tie.Need-lookup-requires
 lookup-requires c κs =
     let g = c .before .before .before .before in
     let e = entry g in
-    let a = e .args in
     let p = e .pre .1 in
     let f = c .before .before .object-at in
     let t = c .before .bounds-at in
-    let w : f .result * 8 + t .result * 8 - f .result * 8 ≡ versions-width (a .l) * 8 = omega (arith, t .ensures) in
-    omega (arith, mid-len (f .result * 8) (f .result * 8 + t .result * 8) (a .records .now) (ends (c .before)), w, lent-count (e .args .l) (e .pre .0 .sane) (e .args .records .now) (p .replica) (p .holds) (a .object) (omega (arith, objects g (p .replica) (p .holds))) (f .result) _ (f .ensures .exact) w)
+    let w : f .result * 8 + t .result * 8 - f .result * 8 ≡ versions-width (e .args .l) * 8 = omega (arith, t .ensures) in
+    read-sorted (e .args .l) (e .pre .0 .sane) (e .args .records .now) (p .replica) (p .holds) (p .shape) (e .args .object) (omega (arith, objects g (p .replica) (p .holds))) (f .result) _ (f .ensures .exact) w
 
-cast-t19 : tie.Need-cast-t19
-cast-t19 c =
+cast-stamp : tie.Need-cast-stamp
+cast-stamp c =
     let g = c .before .before .before .before .before .before in
     let e = entry g in
     let a = e .args in
@@ -136,7 +133,7 @@ cast-t19 c =
     let t = c .before .before .before .bounds-at in
     let w : f .result * 8 + t .result * 8 - f .result * 8 ≡ versions-width (a .l) * 8 = omega (arith, t .ensures) in
     let seen = seen-small (a .l) (e .pre .0 .sane) (a .records .now) (p .replica) (p .holds) (p .shape) (a .object) (omega (arith, objects g (p .replica) (p .holds))) (f .result) _ (f .ensures .exact) w (g .before .before .before .get .result - 1) in
-    omega (arith, seen, ap (λ (v : Version). v .stamp) (c .before .lookup .ensures))
+    omega (arith, seen, ap (λ (v : Version). v .stamp) (c .before .lookup .ensures .0))
 
 returns-4 : tie.Need-returns-4
 returns-4 c =
@@ -149,8 +146,8 @@ returns-4 c =
     let f = c .before .before .before .before .before .object-at in
     let t = c .before .before .before .before .bounds-at in
     let w : f .result * 8 + t .result * 8 - f .result * 8 ≡ versions-width (a .l) * 8 = omega (arith, t .ensures) in
-    let value = subst (λ (v : Version). mag (v .value) < 2 ^ 63) (sym (seen .ensures)) (seen-fits (x .result - 1) (f .result * 8) (f .result * 8 + t .result * 8 - f .result * 8) (a .records .now) (e .pre .1 .bytes)) in
-    met-beside (a .l) (e .pre .0 .sane) (read (a .reader) (a .object)) (a .records .now) (e .pre .1 .bytes) _ _ (read-bodies (a .l) (a .reader) (a .object)) (λ u h k. read-done (a .l) (e .pre .0 .sane) (a .records .now) u h (a .reader) (g .before .before .before .before .before .if1 .left) (at .result) (at .ensures .exact) (x .result) (x .ensures) (omega (arith, g .before .before .if2 .left)) (a .object) (omega (arith, c .before .before .before .before .before .before .if3 .left, objects g u h)) (f .result) _ (f .ensures .exact) w _ (ap (λ (v : ℤ). record { stamp = seen .result .stamp; value = v }) (told value refl) ∙ seen .ensures))
+    let value = subst (λ (v : Version). mag (v .value) < 2 ^ 63) (sym (seen .ensures .0)) (seen-fits (x .result - 1) (f .result * 8) (f .result * 8 + t .result * 8 - f .result * 8) (a .records .now) (e .pre .1 .bytes)) in
+    met-beside (a .l) (e .pre .0 .sane) (read (a .reader) (a .object)) (a .records .now) (e .pre .1 .bytes) _ _ (read-bodies (a .l) (a .reader) (a .object)) (λ u h k. read-done (a .l) (e .pre .0 .sane) (a .records .now) u h (a .reader) (g .before .before .before .before .before .if1 .left) (at .result) (at .ensures .exact) (x .result) (x .ensures) (omega (arith, g .before .before .if2 .left)) (a .object) (omega (arith, c .before .before .before .before .before .before .if3 .left, objects g u h)) (f .result) _ (f .ensures .exact) w _ (ap (λ (v : ℤ). record { stamp = seen .result .stamp; value = v }) (told value refl) ∙ seen .ensures .0))
 
 pub read-spec : {M : Type 1} → statement M
 read-spec =
@@ -173,5 +170,5 @@ read-spec =
     part-lookup-start
     part-lookup-end
     lookup-requires
-    cast-t19
+    cast-stamp
     returns-4)

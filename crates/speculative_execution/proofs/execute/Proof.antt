@@ -10,7 +10,7 @@ use Rattle.cells.specs.Cells.{Below}
 use Rattle.model.specs.Calls.{Answer, most-work}
 use Rattle.layout.specs.Layout.{Areas}
 use Rattle.layout.specs.Contract.{met-by}
-use Rattle.speculative_execution.specs.Answer.{Asked, too-many, readable, counted-blocks, begun, small-counts, answered}
+use Rattle.speculative_execution.specs.Answer.{Asked, too-many, readable, sorted-blocks, begun, small-counts, answered}
 use Rattle.speculative_execution.proofs.execute.Statement.{statement}
 use Rattle.speculative_execution.proofs.execute.Tie as tie
 
@@ -58,7 +58,7 @@ committed-values-requires : tie.Need-committed-values-requires
 committed-values-requires c κs =
     let s = c .before .before .before .before .before in
     let b : Below 256 (now (s .args .records)) = λ i. c .before .before .before .before .slice-known .given i .fits in
-    (s .pre .0 .sane, readable (asked s) b, counted-blocks (asked s) b, refl)
+    (s .pre .0 .sane, readable (asked s) b, sorted-blocks (asked s) b, refl)
 
 array-borrow-prefix-table : tie.Need-array-borrow-prefix-table
 array-borrow-prefix-table c = omega (arith, fits (c .before))

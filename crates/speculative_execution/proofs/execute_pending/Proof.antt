@@ -10,7 +10,7 @@ use Rattle.operation.specs.Body.{body-length}
 use Rattle.layout.specs.Layout.{Areas, parse}
 use Rattle.layout.specs.Offsets.{record-length, body-at}
 use Rattle.layout.specs.Fit.{fit-says, lengths-say}
-use Rattle.rows.specs.Committed.{objects-place}
+use Rattle.committed_table.specs.Committed.{objects-place}
 use Rattle.speculative_execution.specs.Passing.{Going, Worked}
 use Rattle.speculative_execution.specs.LentAreas.{pending-there, low-place, body-inside, begun-first, begun-last, lent-ready, lent-most, lent-next, lent-last}
 use Rattle.speculative_execution.proofs.execute_pending.Statement.{statement}
