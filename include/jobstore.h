@@ -29,7 +29,7 @@
 #include <stddef.h>
 #include <stdint.h>
 
-#define JOBSTORE_VERSION "0.4.0"
+#define JOBSTORE_VERSION "0.5.0"
 
 #ifdef __cplusplus
 extern "C" {
@@ -154,11 +154,12 @@ struct jobstore_executed {
 
 /* Final delivery. */
 struct jobstore_committed {
-    uint32_t number;   /* 0, or the refusal */
-    uint32_t outcome;  /* enum jobstore_outcome */
-    uint32_t kept;     /* 1: the early results were kept; 0: the job was run again */
-    uint32_t stamp;    /* the new commit stamp */
-    uint32_t stored;   /* number of objects stored */
+    uint32_t number;      /* 0, or the refusal */
+    uint32_t outcome;     /* enum jobstore_outcome */
+    uint32_t kept;        /* 1: the early results were kept; 0: the job was run again */
+    uint32_t stamp;       /* the new commit stamp */
+    uint32_t stored;      /* number of objects stored */
+    uint32_t operations;  /* carried out by this call: 0 if kept, else those of the run; passed-over ones are not counted */
 };
 
 /* Read. */
@@ -204,7 +205,7 @@ uint32_t jobstore_early(uint8_t *record, size_t record_length, uint8_t *bodies, 
                         uint32_t client, uint32_t sequence, const uint8_t *body, size_t body_length);
 
 /* Work: carries out at most count operations (0 to 4,096) of the pending jobs, in optimistic order; it stops sooner only
- * when all of them are finished.
+ * when all of them are finished. 16 for each pending job, so 512 at most, finish all of them.
  * Returns the operations carried out and the pending jobs now finished, or refusal 1, 14. */
 struct jobstore_executed jobstore_work(uint8_t *record, size_t record_length, const uint8_t *bodies, size_t bodies_length,
                                        uint32_t count);
@@ -213,7 +214,7 @@ struct jobstore_executed jobstore_work(uint8_t *record, size_t record_length, co
  * read is still the committed one; else it is run again on the committed table. The stamp rises by 1, whatever the outcome.
  * The client's pending jobs with a lower sequence number leave; of the others the first whose reads no longer match, and
  * all after it, go back to their start.
- * Returns outcome, kept, stamp and number of objects stored, or refusal 1, 3, 4, 8, 9. */
+ * Returns outcome, kept, stamp, number of objects stored and operations carried out, or refusal 1, 3, 4, 8, 9. */
 struct jobstore_committed jobstore_final(uint8_t *record, size_t record_length, uint8_t *bodies, size_t bodies_length,
                                          uint32_t client, uint32_t sequence);
 

@@ -88,14 +88,16 @@ static void repeat(void)
     say("early B, next key", jobstore_early(record, sizeof record, bodies, sizeof bodies, 2, 2, copy, part.length), 0);
 }
 
-static void commit(const char *what, uint32_t client, uint32_t sequence, uint32_t kept, uint32_t stamp)
+/* So many operations are carried out again; none where the early results are kept. */
+static void commit(const char *what, uint32_t client, uint32_t sequence, uint32_t stamp, uint32_t operations)
 {
     struct jobstore_committed r = final(client, sequence);
     say(what, r.number, 0);
     say("  outcome", r.outcome, JOBSTORE_DONE);
-    say("  kept", r.kept, kept);
+    say("  kept", r.kept, operations == 0);
     say("  stamp", r.stamp, stamp);
     say("  stored", r.stored, 1);
+    say("  operations", r.operations, operations);
 }
 
 /* A price: object 0, 15 by now, divided by 6. An exact half, 2.5, goes to the even neighbour. */
@@ -104,7 +106,7 @@ static void price(void)
     const struct jobstore_operation sixth[] = {
         {JOBSTORE_LOAD, 0, 0, 0}, {JOBSTORE_DIVIDE, 0, 0, 6}, {JOBSTORE_STORE, 0, 2, 0}};
     say("early price", early(5, 1, sixth, 3), 0);
-    commit("final price", 5, 1, 0, 5);
+    commit("final price", 5, 1, 5, 3);
     say("open reader 2", jobstore_open_reader(record, sizeof record, bodies, sizeof bodies, 2), 0);
     see("object 2", 2, 2, (struct jobstore_value){0, 2, 5});
 }
@@ -117,7 +119,7 @@ static void spent(void)
     struct jobstore_committed r = final(1, 1);
     say("final A again", r.number, JOBSTORE_SPENT);
     printf("  %s\n", jobstore_refusal_text(r.number));
-    say("  beside it", (int64_t)r.outcome + r.kept + r.stamp + r.stored, 0);
+    say("  beside it", (int64_t)r.outcome + r.kept + r.stamp + r.stored + r.operations, 0);
     say("  changed", memcmp(before, record, sizeof record), 0);
     say("  on a short area", jobstore_final(record, sizeof record - 1, bodies, sizeof bodies, 1, 1).number, JOBSTORE_AREA);
 }
@@ -145,9 +147,9 @@ int main(void)
     pending();
     work();
     repeat();
-    commit("final C", 3, 1, 0, 1);
-    commit("final A", 1, 1, 1, 2);
-    commit("final B", 2, 1, 0, 3);
+    commit("final C", 3, 1, 1, 2);
+    commit("final A", 1, 1, 2, 0);
+    commit("final B", 2, 1, 3, 2);
     spent();
     say("open reader 1", jobstore_open_reader(record, sizeof record, bodies, sizeof bodies, 1), 0);
     see("object 0", 1, 0, (struct jobstore_value){0, 15, 2});
@@ -156,7 +158,7 @@ int main(void)
     see("object 0 as reader 0 sees it", 0, 0, (struct jobstore_value){0, 10, 0});
     say("close 0", jobstore_close_reader(record, sizeof record, bodies, sizeof bodies, 0), 0);
     see("object 0, reader 0 closed", 0, 0, (struct jobstore_value){JOBSTORE_READER_CLOSED, 0, 0});
-    commit("final B, next key", 2, 2, 0, 4);
+    commit("final B, next key", 2, 2, 4, 2);
     price();
     header();
     return wrong;

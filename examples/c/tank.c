@@ -1,5 +1,6 @@
 /* A tank from C: its bounds are 0 and 50 litres, and a job that would leave -4 in it stores nothing. The stamp beside the
- * litres tells which job stored them. Prints each answer; the exit status is 0 exactly when all are right. */
+ * litres tells which job stored them. No work is done early, so each final delivery runs its job, and tells the operations.
+ * Prints each answer; the exit status is 0 exactly when all are right. */
 #include <inttypes.h>
 #include <stdio.h>
 
@@ -24,7 +25,7 @@ static uint32_t open_tank(int64_t litres, int64_t lower, int64_t upper)
     return jobstore_open(record, sizeof record, bodies, sizeof bodies, 1, &litres, 1, &lower, 1, &upper, 1, start_stamp);
 }
 
-/* So many litres come in, or, below 0, are drawn. */
+/* So many litres come in, or, below 0, are drawn. A store outside the bounds is the last operation, and counts. */
 static void pour(uint32_t sequence, int64_t litres, uint32_t outcome, int64_t left, uint32_t since)
 {
     const struct jobstore_operation operations[] = {
@@ -37,6 +38,7 @@ static void pour(uint32_t sequence, int64_t litres, uint32_t outcome, int64_t le
     say("  outcome", r.outcome, outcome);
     say("  stored", r.stored, outcome == JOBSTORE_DONE);
     say("  stamp", r.stamp, start_stamp + sequence);
+    say("  operations", r.operations, 4);
     say("  open reader", jobstore_open_reader(record, sizeof record, bodies, sizeof bodies, 0), 0);
     struct jobstore_value tank = jobstore_read(record, sizeof record, bodies, sizeof bodies, 0, 0);
     say("  left", tank.value, left);

@@ -33,7 +33,7 @@ pub fn put_execution(out: &mut [u8], r: Execution) -> usize
     }
 }
 
-// A final delivery's: outcome, kept (1) or run again (0), new stamp, number of objects stored.
+// A final delivery's: outcome, kept (1) or run again (0), new stamp, number of objects stored, operations carried out.
 pub fn put_delivery(out: &mut [u8], r: Delivery) -> usize
     ensures { λ n. ⌜ Answered (now (out .entry)) (final 0 0) (delivery r) (now (out .exit)) n ⌝ }
 {
@@ -42,13 +42,14 @@ pub fn put_delivery(out: &mut [u8], r: Delivery) -> usize
             let outcome = c.outcome as i64;
             let stamp = c.timestamp.0 as i64;
             let stored = c.stored as i64;
+            let operations = c.operations as i64;
             if c.validated {
-                numerals::put_numbers(out, &[0, outcome, 1, stamp, stored])
+                numerals::put_numbers(out, &[0, outcome, 1, stamp, stored, operations])
             } else {
-                numerals::put_numbers(out, &[0, outcome, 0, stamp, stored])
+                numerals::put_numbers(out, &[0, outcome, 0, stamp, stored, operations])
             }
         }
-        Delivery::Refused(k) => numerals::put_numbers(out, &[k as i64, 0, 0, 0, 0]),
+        Delivery::Refused(k) => numerals::put_numbers(out, &[k as i64, 0, 0, 0, 0, 0]),
     }
 }
 

@@ -119,17 +119,17 @@ module _ (S : Table) (b : List Operation) where
       next (inl e) = inl (rw (stay 1 q e) e)
       next (inr h) = by (due b q) refl h
 
-  -- as many operations as the body has, or more, reach the end
-  enough-end : (k : ℕ) → length b ≤ k → ended b (steps S b k start) ≡ true
-  enough-end k h = by (moves-on k start)
+  -- as many operations as the body has, or more, reach the end, wherever the run stands
+  pub enough-end : (k : ℕ) (p : Run) → length b ≤ k → ended b (steps S b k p) ≡ true
+  enough-end k p h = by (moves-on k p)
     where
-      by : (ended b (steps S b k start) ≡ true) ⊎ (k ≤ steps S b k start .counter) → ended b (steps S b k start) ≡ true
+      by : (ended b (steps S b k p) ≡ true) ⊎ (k ≤ steps S b k p .counter) → ended b (steps S b k p) ≡ true
       by (inl e) = e
-      by (inr l) = ended-past b (steps S b k start) (omega arith)
+      by (inr l) = ended-past b (steps S b k p) (omega arith)
 
   pub whole-ends : ended b (whole S b) ≡ true
   unfolding whole
-  whole-ends = enough-end (length b) (omega arith)
+  whole-ends = enough-end (length b) start (omega arith)
 
   -- an ended run is the whole run
   pub ended-whole : (k : ℕ) → ended b (steps S b k start) ≡ true → steps S b k start ≡ whole S b
@@ -137,4 +137,4 @@ module _ (S : Table) (b : List Operation) where
   ended-whole k e = sym (stay (length b) (steps S b k start) e) ∙ steps-swap (length b) k start ∙ stay k (whole S b) whole-ends
 
   pub enough : (k : ℕ) → length b ≤ k → steps S b k start ≡ whole S b
-  enough k h = ended-whole k (enough-end k h)
+  enough k h = ended-whole k (enough-end k start h)

@@ -161,6 +161,10 @@ unfoldable pub counted : Table → List Operation → ℕ → Run → ℕ
 counted T b zero p = 0
 counted T b (suc c) p = cond (ended b p) 0 (suc (counted T b c (step T b p)))
 
+-- how many operations a whole run carries out
+unfoldable pub whole-count : Table → List Operation → ℕ
+whole-count T b = counted T b (length b) start
+
 -- "every value it read from outside itself equals" the table's
 abbrev pub matches : Table → List Entry → Bool
 matches T [] = true

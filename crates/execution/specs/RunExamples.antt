@@ -12,7 +12,7 @@ use Rattle.operation.specs.declared.Operation.the-variants.{Load, Store, Set, A
 use Rattle.execution.specs.Entries.{Entry, entry}
 use Rattle.execution.specs.Bounds.{widest, inside}
 use Rattle.execution.specs.LentTable.{lent-table}
-use Rattle.execution.specs.Run.{Table, table-of, failed, overflowed, Move, get, put, go, halt, sum, move, Run, start, obey, step, steps, whole, counted, matches, over}
+use Rattle.execution.specs.Run.{Table, table-of, failed, overflowed, Move, get, put, go, halt, sum, move, Run, start, obey, step, steps, whole, counted, whole-count, matches, over}
 
 -- the ends of 64 bits
 abbrev most : ℤ
@@ -205,7 +205,7 @@ parts =
     ∷ (stands 2 1 zeros [] [], 5, stands 2 1 zeros [] [], 0)
     ∷ []
 
--- of the bodies with a skip: how many operations are counted
+-- bodies with a skip, and how many operations a whole run of them carries out: those passed over do not count
 unfoldable pub skips : List (List Operation × ℕ)
 skips =
     (Set 0 (negsuc 0) ∷ Skip 0 2 ∷ Set 1 (pos 8) ∷ Fail ∷ Set 2 (pos 9) ∷ [], 3)
@@ -213,6 +213,16 @@ skips =
     ∷ (Set 0 (negsuc 0) ∷ Skip 0 1 ∷ Fail ∷ [], 2)
     ∷ (filled (Skip 2 3 ∷ Fail ∷ Fail ∷ Fail ∷ Store 1 2 ∷ []), 6)
     ∷ (filled (Skip 3 1 ∷ Store 1 0 ∷ Store 3 2 ∷ []), 7)
+    ∷ []
+
+-- bodies that stop, likewise: the operation that stops them counts, those behind it do not
+unfoldable pub stops : List (List Operation × ℕ)
+stops =
+    (Fail ∷ Set 0 (pos 8) ∷ [], 1)
+    ∷ (Load 0 0 ∷ Store 0 1 ∷ Fail ∷ Store 0 2 ∷ [], 3)
+    ∷ (Set 0 most ∷ Set 1 (pos 1) ∷ Store 1 2 ∷ Add 0 1 ∷ Store 1 1 ∷ Fail ∷ [], 4)
+    ∷ (Set 0 (pos 4) ∷ Store 0 0 ∷ Fail ∷ Fail ∷ [], 2)
+    ∷ (Set 0 (negsuc 0) ∷ Skip 0 2 ∷ Fail ∷ Fail ∷ Fail ∷ Set 1 (pos 8) ∷ [], 3)
     ∷ []
 
 -- whether a read set agrees with the depot; past the last object a table has 0
@@ -229,11 +239,12 @@ pub computed :
     (map (λ e. whole depot (e .0)) examples ≡ map (λ e. e .1) examples)
     × (map (λ e. steps depot body-a (e .1) (e .0)) parts ≡ map (λ e. e .2) parts)
     × (map (λ e. counted depot body-a (e .1) (e .0)) parts ≡ map (λ e. e .3) parts)
-    × (map (λ e. counted depot (e .0) 16 start) skips ≡ map (λ e. e .1) skips)
+    × (map (λ e. whole-count depot (e .0)) skips ≡ map (λ e. e .1) skips)
+    × (map (λ e. whole-count bounded-depot (e .0)) stops ≡ map (λ e. e .1) stops)
     × (map (λ e. matches depot (e .0)) agreements ≡ map (λ e. e .1) agreements)
     × (map (λ e. whole bounded-depot (e .0)) bounded-examples ≡ map (λ e. e .1) bounded-examples)
     × (map (over (at 2 5 ∷ at 0 7 ∷ []) depot .look) (0 ∷ 1 ∷ 2 ∷ 3 ∷ []) ≡ pos 7 ∷ pos 20 ∷ pos 5 ∷ pos 0 ∷ [])
     -- a store that is not committed has no stamp: the committed version's stays
     × (map (over (at 2 5 ∷ at 0 7 ∷ []) bounded-depot .stamp) (0 ∷ 1 ∷ 2 ∷ 3 ∷ []) ≡ 9 ∷ 3 ∷ 6 ∷ 0 ∷ [])
-unfolding body-a examples bounded-examples parts skips agreements start whole steps counted step obey move sum register-count fits quotient rounds-up operations listed encode written inside
-computed = (refl, refl, refl, refl, refl, refl, refl, refl)
+unfolding body-a examples bounded-examples parts skips stops agreements start whole steps whole-count counted step obey move sum register-count fits quotient rounds-up operations listed encode written inside
+computed = (refl, refl, refl, refl, refl, refl, refl, refl, refl)

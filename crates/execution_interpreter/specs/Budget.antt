@@ -15,6 +15,7 @@ use Rattle.operation.specs.declared.Operation.the-variants.{Load, Store, Set, A
 use Rattle.execution.specs.declared.Counts.{Counts}
 use Rattle.execution.specs.Run.{Table, outside, Move, get, put, go, halt, move, Run, start, put-in, stopped, apply, due, is-none, ended, obey, step, steps, whole, counted}
 use Rattle.execution.specs.ReadAgreement.{stay, steps-step, ended-past, enough}
+use Rattle.execution.specs.Counting.{counted-ended}
 use Rattle.execution.specs.RunShape.{stop-least}
 use Rattle.execution.specs.Arrays.{capacity, run-of-arrays, Lent}
 use Rattle.execution_interpreter.specs.Executes.{Executes, InArrays}
@@ -29,15 +30,10 @@ module _ (T : Table) (b : List Operation) (budget : ℕ) (s : Run) where
   pub going : Going 0 s
   going = record { within = omega arith; same = rw sub-zero; count = rw (sub-zero, zero-add) }
 
-  counted-ended : (k : ℕ) (p : Run) → ended b p ≡ true → counted T b k p ≡ 0
-  unfolding counted
-  counted-ended zero p e = refl
-  counted-ended (suc k) p e = rw e
-
   module _ (used : ℕ) (p : Run) (g : Going used p) where
     pub at-end : ended b p ≡ true → Executes T b budget s p used
     at-end e =
-        let z = counted-ended (budget - used) p e in
+        let z = counted-ended T b (budget - used) p e in
         let n = g .count in
         record { run = sym (stay T b (budget - used) p e) ∙ g .same; count = omega arith }
 

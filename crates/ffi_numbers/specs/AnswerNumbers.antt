@@ -21,7 +21,8 @@ abbrev pub executed : Executed → List ℤ
 executed r = pos (r .number) ∷ pos (r .operations) ∷ pos (r .finished) ∷ []
 
 abbrev pub committed : Committed → List ℤ
-committed r = pos (r .number) ∷ pos (r .outcome) ∷ pos (r .kept) ∷ pos (r .stamp) ∷ pos (r .stored) ∷ []
+committed r =
+    pos (r .number) ∷ pos (r .outcome) ∷ pos (r .kept) ∷ pos (r .stamp) ∷ pos (r .stored) ∷ pos (r .operations) ∷ []
 
 abbrev pub valued : Valued → List ℤ
 valued r = pos (r .number) ∷ r .value ∷ pos (r .stamp) ∷ []

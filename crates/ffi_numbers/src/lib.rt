@@ -15,7 +15,7 @@ pub struct Executed {
     pub finished: u32,
 }
 
-// Final delivery. `kept` is 1 where the early results were validated, 0 where the transaction was run again.
+// Final delivery. `kept` is 1 where the early results were validated, 0 where the transaction was run again, by `operations` operations.
 #[repr(C)]
 pub struct Committed {
     pub number: u32,
@@ -23,6 +23,7 @@ pub struct Committed {
     pub kept: u32,
     pub stamp: u32,
     pub stored: u32,
+    pub operations: u32,
 }
 
 // Read: value and stamp of the version that the reader sees.
@@ -71,7 +72,7 @@ pub fn execution_numbers(e: Execution) -> Executed
 
 // A final delivery's answer in the paper's numbers.
 pub fn delivery_numbers(d: Delivery) -> Committed
-    ensures { λ r. ⌜ Numbered 4 (committed r) (delivery d) ⌝ }
+    ensures { λ r. ⌜ Numbered 5 (committed r) (delivery d) ⌝ }
 {
     match d {
         Delivery::Committed(c) => Committed {
@@ -80,6 +81,7 @@ pub fn delivery_numbers(d: Delivery) -> Committed
             kept: c.validated as u32,
             stamp: c.timestamp.0,
             stored: c.stored,
+            operations: c.operations,
         },
         Delivery::Refused(k) => Committed {
             number: k,
@@ -87,6 +89,7 @@ pub fn delivery_numbers(d: Delivery) -> Committed
             kept: 0,
             stamp: 0,
             stored: 0,
+            operations: 0,
         },
     }
 }

@@ -23,7 +23,8 @@ use Rattle.model.specs.Calls.{committed as committed-answer, Yield, yielded, Tr
 use Rattle.model.specs.Answers.{delivery}
 use Rattle.model.specs.Serial.{Version}
 use Rattle.model.specs.Replica as model
-use Rattle.model.specs.Replica.{Pending, Replica, opens, table, committed-table, program, stays, validated, result, commit, pending-of}
+use Rattle.model.specs.Replica.{Pending, Replica, opens, table, committed-table, program, stays, validated, result, rework, commit, pending-of}
+use Rattle.model.specs.Ceiling.{rework-most}
 use Rattle.model.specs.VersionLaws.{length-install}
 use Rattle.model.specs.EarlyResults.{walk-sents}
 use Rattle.model.specs.Shape.{Shape}
@@ -85,7 +86,8 @@ marked {l} {t} {cl} {sq} {o} {b} {d} {e} s tt-small small h eo k =
 abbrev pub commit-at : Replica → ℕ → ℕ → ℕ → Yield × Replica
 commit-at u c q i =
     let j : Pending = at (u .pending) i in
-    commit u c q (validated (committed-table u) j) (result (committed-table u) j)
+    let T : Table = committed-table u in
+    commit u c q (validated T j) (result T j) (rework T j)
 
 -- both areas hold a replica in shape, one of whose transactions stands at position i
 pub record Found (l : Limits) (b c : List ℕ) (cl i : ℕ) : Type 0 where
@@ -167,6 +169,11 @@ module _ {l : Limits} {b c : List ℕ} {cl i : ℕ} (s : Sane l) (m : Local l) (
           let f = formed (l .operations) (length (u .objects)) (body-of j) body-formed in
           omega (arith, length-entries (d .stored) wo wv, ap length (decided .writes), k .room, k .within, length-operations (body-of j), f .most, m .operations)
 
+      pub operations-few : d .operations ≤ capacity
+      operations-few =
+          let f = formed (l .operations) (length (u .objects)) (body-of j) body-formed in
+          omega (arith, decided .operations, rework-most T j, length-operations (body-of j), f .most, m .operations)
+
       -- the next timestamp
       module _ {t : ℕ} (et : NextAfter b t) where
         pub next : t ≡ suc (u .timestamp)
@@ -233,15 +240,16 @@ module _ {l : Limits} {b c : List ℕ} {cl i : ℕ} (s : Sane l) (m : Local l) (
                 walked : Holds l b4 (final t ws)
                 walked = h4 .holds (record { replica = with-pending js v; holds = left .holds; runs = left-runs; versions = left-versions; placed = left-placed; few = left-few })
 
-                pub found-done : {r : Commit} → r .outcome ≡ d .outcome → r .validated ≡ d .validated → r .timestamp .0 ≡ t → r .stored ≡ d .stored → Answered l b4 c3 (commit-at u cl sq i) r
+                pub found-done : {r : Commit} → r .outcome ≡ d .outcome → r .validated ≡ d .validated → r .timestamp .0 ≡ t → r .stored ≡ d .stored → r .operations ≡ d .operations → Answered l b4 c3 (commit-at u cl sq i) r
                 unfolding commit
-                found-done {r} eo ek er es =
+                found-done {r} eo ek er es ew =
                     let count : r .stored ≡ length (result T j .writes) = es ∙ sym (length-entries (d .stored) wo wv) ∙ ap length (decided .writes) in
                     let k = eo ∙ decided .outcome in
                     let y = ek ∙ decided .validated in
                     let q = er ∙ next in
+                    let w = ew ∙ decided .operations in
                     record {
-                      answer = λ x. committed-answer (k x) (y x) (q x) (count x);
+                      answer = λ x. committed-answer (k x) (y x) (q x) (count x) (w x);
                       areas = subst (Both l b4 c3) (ap₂ final next (decided .writes))
                           (record { holds = walked; bodies = same-bodies l s c3 (with-pending js v) (left .bodies) (final t ws) (walked .fits) (bodies-walk (table (model.install t (opens (u .readers)) ws (u .objects)) (u .bounds)) js) });
                     }

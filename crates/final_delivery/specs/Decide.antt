@@ -19,16 +19,18 @@ use Rattle.operation.specs.BodyLaws.{Formed, formed, well-formed}
 use Rattle.execution.specs.declared.Counts.{Counts}
 use Rattle.execution.specs.declared.ObjectsAt.{ObjectsAt}
 use Rattle.execution.specs.Entries.{entry}
-use Rattle.execution.specs.Run.{Table, object-count, Run, is-none, due-at, whole, matches}
+use Rattle.execution.specs.Run.{Table, object-count, Run, is-none, due-at, whole, whole-count, matches}
 use Rattle.execution.specs.LentTable.{lent-table, BoundsWithin}
 use Rattle.execution.specs.Arrays.{capacity, entries}
 use Rattle.execution.specs.RunShape.{Shaped, every, sound}
+use Rattle.execution_interpreter.specs.declared.Executed.{Executed}
 use Rattle.execution_interpreter.specs.Executes.{InArrays}
 use Rattle.model.specs.declared.Limits.{Limits}
 use Rattle.model.specs.ListLaws.{All, all-in, all-implies}
 use Rattle.model.specs.Calls.{Transaction}
 use Rattle.model.specs.Serial.{Version}
-use Rattle.model.specs.Replica.{Pending, Replica, opens, committed-table, program, validated, result, pending-of}
+use Rattle.model.specs.Replica.{Pending, Replica, opens, committed-table, program, validated, result, rework, pending-of}
+use Rattle.model.specs.Ceiling.{rework-kept}
 use Rattle.model.specs.Shape.{VersionsShape, Shape}
 use Rattle.model.specs.ShapeParts.{pending-part}
 use Rattle.layout.specs.Layout.{body-of}
@@ -53,15 +55,16 @@ pub record Local (l : Limits) : Type 0 where
 
 -- ---- the decision
 
--- a run in counts, kept or not
-abbrev pub decision-of : Counts → Bool → Decision
-decision-of t kept = record { outcome = t .outcome; validated = kept; stored = t .writes }
+-- a run in counts, kept or not, for which w operations were carried out
+abbrev pub decision-of : Counts → Bool → ℕ → Decision
+decision-of t kept w = record { outcome = t .outcome; validated = kept; stored = t .writes; operations = w }
 
 -- the decision on j, its write set in two arrays
 pub record Decided (T : Table) (j : Pending) (r : Decision) (wo : List ℕ) (wv : List ℤ) : Type 0 where
   pub validated : r .validated ≡ validated T j
   pub outcome : r .outcome ≡ result T j .outcome
   pub writes : entries (r .stored) wo wv ≡ result T j .writes
+  pub operations : r .operations ≡ rework T j
 
 pub decided-as : {T : Table} {j : Pending} {wo : List ℕ} {wv : List ℤ} {r d : Decision} → r ≡ d → Decided T j d wo wv → Decided T j r wo wv
 decided-as {T} {j} {wo} {wv} e h = subst (λ (x : Decision). Decided T j x wo wv) (sym e) h
@@ -101,13 +104,14 @@ pub record Rerunning (l : Limits) (b body : List ℕ) : Type 0 where
   pub versions : committed.Current replica
   pub formed : is-well-formed capacity (length (replica .objects)) body ≡ true
 
--- the whole run of this body, in counts, with its write set in two arrays
-pub record Ran (T : Table) (body : List ℕ) (t : Counts) (wo : List ℕ) (wv : List ℤ) : Type 0 where
-  pub outcome : t .outcome ≡ whole T (operations body) .outcome
-  pub writes : entries (t .writes) wo wv ≡ whole T (operations body) .writes
+-- the whole run of this body, in counts, with its write set in two arrays, and the operations that it carried out
+pub record Ran (T : Table) (body : List ℕ) (r : Executed) (wo : List ℕ) (wv : List ℤ) : Type 0 where
+  pub outcome : r .counts .outcome ≡ whole T (operations body) .outcome
+  pub writes : entries (r .counts .writes) wo wv ≡ whole T (operations body) .writes
+  pub used : r .used ≡ whole-count T (operations body)
 
-pub record Reruns (l : Limits) (b body : List ℕ) (t : Counts) (wo : List ℕ) (wv : List ℤ) : Type 0 where
-  pub ran : (p : Rerunning l b body) → Ran (committed-table (p .replica)) body t wo wv
+pub record Reruns (l : Limits) (b body : List ℕ) (r : Executed) (wo : List ℕ) (wv : List ℤ) : Type 0 where
+  pub ran : (p : Rerunning l b body) → Ran (committed-table (p .replica)) body r wo wv
 
 module _ {l : Limits} {b body : List ℕ} (s : Sane l) (m : Local l) (p : Rerunning l b body) where
   pub rerun-laid : committed.Laid l b
@@ -138,12 +142,13 @@ module _ {l : Limits} {b body : List ℕ} (s : Sane l) (m : Local l) (p : Rerunn
           subst (λ (x : ObjectsAt). BoundsWithin x (object-count (take n vs)) (length b)) (sym eq)
           (subst (λ (k : ℕ). BoundsWithin (committed.objects-place l) k (length b)) (sym as-many) (committed.bounds-within l s b (p .replica) (p .holds)))
 
-      pub values-ran : (t : Counts) (ro : List ℕ) (rv : List ℤ) (wo : List ℕ) (wv : List ℤ)
-          → InArrays (whole (lent-table (take n vs) q (cells b)) (operations body)) t ro rv wo wv → Ran (committed-table (p .replica)) body t wo wv
-      values-ran t ro rv wo wv h =
+      pub values-ran : (r : Executed) (ro : List ℕ) (rv : List ℤ) (wo : List ℕ) (wv : List ℤ)
+          → InArrays (whole (lent-table (take n vs) q (cells b)) (operations body)) (r .counts) ro rv wo wv
+          → r .used ≡ whole-count (lent-table (take n vs) q (cells b)) (operations body) → Ran (committed-table (p .replica)) body r wo wv
+      values-ran r ro rv wo wv h w =
           let T = ap (λ (x : ObjectsAt). lent-table (take n vs) x (cells b)) eq ∙ committed.committed-lent l s b (p .replica) (p .holds) (p .versions) e in
           let k = h ∙ ap (λ (x : Table). whole x (operations body)) T in
-          record { outcome = ap (λ (q : Run). q .outcome) k; writes = ap (λ (q : Run). q .writes) k }
+          record { outcome = ap (λ (q : Run). q .outcome) k; writes = ap (λ (q : Run). q .writes) k; used = w ∙ ap (λ (x : Table). whole-count x (operations body)) T }
 
 -- ---- both, of transaction i
 
@@ -279,18 +284,29 @@ module _ {l : Limits} {b c : List ℕ} {i : ℕ} {ps : List ℕ} (s : Sane l) (m
               ∙ ap₂ (λ (x : List ℕ) (k : Bool). is-none (due-at (operations x) (t .counter) (t .outcome)) && k) (lent-body ex en ew) agree
               ∙ ap₂ (λ (x y : ℕ). is-none (due-at (program j) x y) && matches T (j .run .reads)) (et .counter ∙ ap (λ (y : ℕ). getD (cells b) (y + counter-at) 0) ea ∙ row-counter l s b u (p .holds) i (p .there)) is-outcome
 
-          pub decided-validated : z ≡ true → {wo : List ℕ} {wv : List ℤ} → entries (t .writes) wo wv ≡ j .run .writes → Decided T j (decision-of t true) wo wv
+          pub decided-validated : z ≡ true → {wo : List ℕ} {wv : List ℤ} → entries (t .writes) wo wv ≡ j .run .writes → Decided T j (decision-of t true 0) wo wv
           unfolding result
           decided-validated f h =
               let v : validated T j ≡ true = sym told ∙ f in
               let r : result T j ≡ j .run = ap (λ (y : Bool). cond y (j .run) (whole T (program j))) v in
-              record { validated = sym v; outcome = is-outcome ∙ ap (λ (q : Run). q .outcome) (sym r); writes = h ∙ ap (λ (q : Run). q .writes) (sym r) }
+              record {
+                validated = sym v;
+                outcome = is-outcome ∙ ap (λ (q : Run). q .outcome) (sym r);
+                writes = h ∙ ap (λ (q : Run). q .writes) (sym r);
+                operations = sym (rework-kept T j v);
+              }
 
-          pub decided-again : z ≡ false → {t′ : Counts} {wo : List ℕ} {wv : List ℤ} → Reruns l b (midOf x (x + w - x) c) t′ wo wv → Decided T j (decision-of t′ false) wo wv
-          unfolding result
-          decided-again f {t′} {wo} {wv} h =
+          pub decided-again : z ≡ false → {g : Executed} {wo : List ℕ} {wv : List ℤ} → Reruns l b (midOf x (x + w - x) c) g wo wv → Decided T j (decision-of (g .counts) false (g .used)) wo wv
+          unfolding result rework
+          decided-again f {g} {wo} {wv} h =
               let v : validated T j ≡ false = sym told ∙ f in
               let r : result T j ≡ whole T (program j) = ap (λ (y : Bool). cond y (j .run) (whole T (program j))) v in
               let k = h .ran (rerunning ex en ew) in
               let e = ap (λ (y : List ℕ). whole T (operations y)) (lent-body ex en ew) ∙ sym r in
-              record { validated = sym v; outcome = k .outcome ∙ ap (λ (q : Run). q .outcome) e; writes = k .writes ∙ ap (λ (q : Run). q .writes) e }
+              let n = ap (λ (y : List ℕ). whole-count T (operations y)) (lent-body ex en ew) ∙ sym (ap (λ (y : Bool). cond y 0 (whole-count T (program j))) v) in
+              record {
+                validated = sym v;
+                outcome = k .outcome ∙ ap (λ (q : Run). q .outcome) e;
+                writes = k .writes ∙ ap (λ (q : Run). q .writes) e;
+                operations = k .used ∙ n;
+              }

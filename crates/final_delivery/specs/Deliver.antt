@@ -15,7 +15,7 @@ use Rattle.model.specs.declared.Delivery as deliveries
 use Rattle.model.specs.Lists.{any, index}
 use Rattle.model.specs.Calls.{final, Answer, refused, yielded, is-key, clients, last-timestamp, causes, refusal}
 use Rattle.model.specs.Answers.{delivery}
-use Rattle.model.specs.Replica.{Pending, has-key, pending-of, facts, perform, commit, validated, result, committed-table}
+use Rattle.model.specs.Replica.{Pending, has-key, pending-of, facts, perform, commit, validated, result, rework, committed-table}
 use Rattle.model.specs.EarlyResults.{sents}
 use Rattle.model.specs.ListLaws.{any-map, any-index, pick-index}
 use Rattle.layout.specs.Layout.{Areas, parse, print}
@@ -139,7 +139,8 @@ module _ {l : Limits} {a : Areas} (q : Shaped l a) where
           to : Pending → Answer × Areas
           to j =
               let T = committed-table (parse l a) in
-              (yielded (commit (parse l a) cl sq (validated T j) (result T j) .0), print l (commit (parse l a) cl sq (validated T j) (result T j) .1))
+              let r = commit (parse l a) cl sq (validated T j) (result T j) (rework T j) in
+              (yielded (r .0), print l (r .1))
 
       pub final-answer : {b c : List ℕ} {r : Commit} → Commits l cl sq i (a .0) (a .1) b c r → (delivery (deliveries.the-variants.Committed r) ≡ act l (final cl sq) a .0) × ((b, c) ≡ act l (final cl sq) a .1)
       final-answer {b} {c} {r} h =

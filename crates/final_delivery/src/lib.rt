@@ -1,5 +1,6 @@
 // Final delivery: the refusals, the choice between the early results and a new execution, and the commit.
 use execution::Counts;
+use execution_interpreter::Executed;
 use model::Commit;
 use model::CommitTimestamp;
 use model::Delivery;
@@ -21,21 +22,23 @@ ghost use Rattle.final_walk.specs.Recorded.{Lying, reads-from};
 ghost use Rattle.final_delivery.specs.Decide.{Local, decision-of, Deciding, Decides, CountsAt, valid-at, Rerunning, Reruns};
 ghost use Rattle.final_delivery.specs.Commit.{Found, Commits, Before, NextAfter, Marking, Marks};
 
-// What a final delivery of a transaction comes to: its outcome, whether its early results are kept, and how many objects are stored.
+// What a final delivery of a transaction comes to: its outcome, whether its early results are kept, how many objects are stored, and its rework.
 pub struct Decision {
     pub outcome: usize,
     pub validated: bool,
     pub stored: usize,
+    pub operations: usize,
 }
 
-// A run as what a delivery comes to: its outcome, and as many objects as its write set names.
-fn decided(t: Counts, validated: bool) -> Decision
-    ensures { λ r. ⌜ r ≡ decision-of t validated ⌝ }
+// A run as what a delivery comes to: its outcome, as many objects as its write set names, and the operations carried out for it.
+fn decided(t: Counts, validated: bool, operations: usize) -> Decision
+    ensures { λ r. ⌜ r ≡ decision-of t validated operations ⌝ }
 {
     Decision {
         outcome: t.outcome,
         validated,
         stored: t.writes,
+        operations,
     }
 }
 
@@ -69,18 +72,18 @@ fn is_validated(records: &[u8], at: usize, body: &[u8], t: Counts, places: &[usi
     }
 }
 
-// The whole run of this body on the committed state: its values are gathered for it, by the lookup that readers use; stamps
-// and bounds are lent where they stand. Its write set comes in two arrays.
+// The whole run of this body on the committed state, and how many operations it carried out: its values are gathered for it, by the lookup that
+// readers use; stamps and bounds are lent where they stand. Its write set comes in two arrays.
 fn run_again(
     records: &[u8],
     l: Limits,
     body: &[u8],
     wo: &mut [usize; 16],
     wv: &mut [i64; 16],
-) -> Counts
+) -> Executed
     requires { ⌜ Sane l × Local l ⌝ }
     requires { ⌜ Rerunning l (now records) (now body) × Room (now wo) (now wv) ⌝ }
-    ensures { λ t. ⌜ Reruns l (now (records .entry)) (now (body .entry)) t (now (wo .exit)) (now (wv .exit)) ⌝ }
+    ensures { λ r. ⌜ Reruns l (now (records .entry)) (now (body .entry)) r (now (wo .exit)) (now (wv .exit)) ⌝ }
 {
     let mut table: [i64; 128] = [0; 128];
     let n = committed_table::committed_values(records, l, &mut table);
@@ -123,10 +126,10 @@ fn decide(
     if is_validated(records, at, body, t, places) {
         let from = at * 8;
         rows::load_entries(&records[from..], t.reads, t.writes, wo, wv);
-        return decided(t, true);
+        return decided(t, true, 0);
     }
     let again = run_again(records, l, body, wo, wv);
-    decided(again, false)
+    decided(again.counts, false, again.used)
 }
 
 // The commit timestamp that the next commit takes.
@@ -182,6 +185,7 @@ fn commit_at(
         validated: d.validated,
         timestamp,
         stored: stored as u32,
+        operations: d.operations as u32,
     }
 }
 

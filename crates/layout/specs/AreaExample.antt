@@ -136,7 +136,7 @@ unfits =
     (opening (plain (pos 4 ∷ []) 0), pos 1 ∷ [])
     ∷ (optimistic 3 11 [], pos 1 ∷ [])
     ∷ (execute 1, pos 1 ∷ pos 0 ∷ pos 0 ∷ [])
-    ∷ (final 3 10, pos 1 ∷ pos 0 ∷ pos 0 ∷ pos 0 ∷ pos 0 ∷ [])
+    ∷ (final 3 10, pos 1 ∷ pos 0 ∷ pos 0 ∷ pos 0 ∷ pos 0 ∷ pos 0 ∷ [])
     ∷ (open-reader 0, pos 1 ∷ [])
     ∷ (close-reader 0, pos 1 ∷ [])
     ∷ (read 0 0, pos 1 ∷ pos 0 ∷ pos 0 ∷ [])

@@ -23,8 +23,8 @@ answers =
     ((opening (plain [] 3), done), pos 0 ∷ [])
     ∷ ((optimistic 1 2 [], done), pos 0 ∷ [])
     ∷ ((execute 9, executed 5 3), pos 0 ∷ pos 5 ∷ pos 3 ∷ [])
-    ∷ ((final 1 2, committed 3 true 9 4), pos 0 ∷ pos 3 ∷ pos 1 ∷ pos 9 ∷ pos 4 ∷ [])  -- kept
-    ∷ ((final 1 2, committed 3 false 9 4), pos 0 ∷ pos 3 ∷ pos 0 ∷ pos 9 ∷ pos 4 ∷ [])  -- run again
+    ∷ ((final 1 2, committed 3 true 9 4 6), pos 0 ∷ pos 3 ∷ pos 1 ∷ pos 9 ∷ pos 4 ∷ pos 6 ∷ [])  -- kept
+    ∷ ((final 1 2, committed 3 false 9 4 6), pos 0 ∷ pos 3 ∷ pos 0 ∷ pos 9 ∷ pos 4 ∷ pos 6 ∷ [])  -- run again
     ∷ ((open-reader 1, done), pos 0 ∷ [])
     ∷ ((read 1 2, value (negsuc 6) 9), pos 0 ∷ negsuc 6 ∷ pos 9 ∷ [])
     ∷ ((close-reader 1, done), pos 0 ∷ [])
@@ -35,7 +35,7 @@ answers =
     ∷ ((opening (by-values 1 (pos 4 ∷ []) (pos 5 ∷ []) (pos 6 ∷ []) 3), refused 15), pos 15 ∷ [])
     ∷ ((optimistic 1 2 [], refused 5), pos 5 ∷ [])
     ∷ ((execute 9, refused 14), pos 14 ∷ pos 0 ∷ pos 0 ∷ [])
-    ∷ ((final 1 2, refused 8), pos 8 ∷ pos 0 ∷ pos 0 ∷ pos 0 ∷ pos 0 ∷ [])
+    ∷ ((final 1 2, refused 8), pos 8 ∷ pos 0 ∷ pos 0 ∷ pos 0 ∷ pos 0 ∷ pos 0 ∷ [])
     ∷ ((open-reader 1, refused 11), pos 11 ∷ [])
     ∷ ((read 1 2, refused 13), pos 13 ∷ pos 0 ∷ pos 0 ∷ [])
     ∷ ((close-reader 1, refused 12), pos 12 ∷ [])
@@ -49,7 +49,7 @@ numbers-hold = refl
 -- Of one transaction that stores two objects: worked on first, its final delivery is kept; without, it is run again. Where object 2 may not be 5 it
 -- stores none, with outcome 3.
 abbrev two-stores : List ℕ
-two-stores = encode (Load 2 0 ∷ Set 1 (pos 5) ∷ Add 2 1 ∷ Store 2 0 ∷ Store 1 2 ∷ [])
+two-stores = encode (Load 2 0 ∷ Set 1 (pos 5) ∷ Add 2 1 ∷ Store 2 0 ∷ Store 1 2 ∷ Set 1 (pos 4) ∷ [])
 
 abbrev delivered : Opening → List Call → List (List ℤ)
 delivered o cs = map (numbers (final 3 1)) (calls small (opened small (start-of o)) cs .0)
@@ -64,16 +64,16 @@ bounded =
 
 -- worked on first, or not
 abbrev early : List Call
-early = optimistic 3 1 two-stores ∷ execute 5 ∷ final 3 1 ∷ []
+early = optimistic 3 1 two-stores ∷ execute 6 ∷ final 3 1 ∷ []
 
 abbrev late : List Call
 late = optimistic 3 1 two-stores ∷ final 3 1 ∷ []
 
 pub final-deliveries :
-    (getD (delivered unbounded early) 2 [] ≡ pos 0 ∷ pos 0 ∷ pos 1 ∷ pos 8 ∷ pos 2 ∷ [])
-    × (getD (delivered unbounded late) 1 [] ≡ pos 0 ∷ pos 0 ∷ pos 0 ∷ pos 8 ∷ pos 2 ∷ [])
-    × (getD (delivered bounded early) 2 [] ≡ pos 0 ∷ pos 3 ∷ pos 1 ∷ pos 8 ∷ pos 0 ∷ [])
-    × (getD (delivered bounded late) 1 [] ≡ pos 0 ∷ pos 3 ∷ pos 0 ∷ pos 8 ∷ pos 0 ∷ [])
+    (getD (delivered unbounded early) 2 [] ≡ pos 0 ∷ pos 0 ∷ pos 1 ∷ pos 8 ∷ pos 2 ∷ pos 0 ∷ [])
+    × (getD (delivered unbounded late) 1 [] ≡ pos 0 ∷ pos 0 ∷ pos 0 ∷ pos 8 ∷ pos 2 ∷ pos 6 ∷ [])
+    × (getD (delivered bounded early) 2 [] ≡ pos 0 ∷ pos 3 ∷ pos 1 ∷ pos 8 ∷ pos 0 ∷ pos 0 ∷ [])
+    × (getD (delivered bounded late) 1 [] ≡ pos 0 ∷ pos 3 ∷ pos 0 ∷ pos 8 ∷ pos 0 ∷ pos 5 ∷ [])
 unfolding computing
 final-deliveries = (refl, refl, refl, refl)
 
@@ -84,8 +84,8 @@ compared-answers =
     (refused 9, refused 9)
     ∷ (done, done)
     ∷ (executed 5 3, executed 0 0)  -- "Work's counts .. are demand 2's"
-    ∷ (committed 3 true 9 4, committed 3 false 9 4)  -- "and kept or run again"
-    ∷ (committed 3 false 9 4, committed 3 false 9 4)
+    ∷ (committed 3 true 9 4 6, committed 3 false 9 4 0)  -- "and kept or run again", with the operations carried out
+    ∷ (committed 3 false 9 4 6, committed 3 false 9 4 0)
     ∷ (value (negsuc 6) 9, value (negsuc 6) 9)  -- "A reader's sameness of answers now includes the stamp"
     ∷ (found 3 45, found 3 45)
     ∷ (body (6 ∷ 7 ∷ []), body (6 ∷ 7 ∷ []))

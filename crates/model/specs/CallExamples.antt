@@ -41,38 +41,38 @@ new v = version 8 v
 abbrev old : ℤ → Version
 old v = version 7 v
 
--- nothing stored, with this outcome
-abbrev nothing : ℕ → Answer × List Version
-nothing k = (committed k false 8 0, old (pos 10) ∷ old (pos 20) ∷ old (negsuc 29) ∷ [])
+-- nothing stored, with this outcome, by w operations
+abbrev nothing : ℕ → ℕ → Answer × List Version
+nothing k w = (committed k false 8 0 w, old (pos 10) ∷ old (pos 20) ∷ old (negsuc 29) ∷ [])
 
 -- programs with what each comes to
 unfoldable pub programs : List (List Operation × (Answer × List Version))
 programs =
     -- load and store: the register and the object named; a store of the old value is a new version
-    (Load 3 1 ∷ Store 3 0 ∷ Store 3 1 ∷ [], (committed 0 false 8 2, new (pos 20) ∷ new (pos 20) ∷ old (negsuc 29) ∷ []))
+    (Load 3 1 ∷ Store 3 0 ∷ Store 3 1 ∷ [], (committed 0 false 8 2 3, new (pos 20) ∷ new (pos 20) ∷ old (negsuc 29) ∷ []))
     -- registers are 0 at the start
-    ∷ (Store 2 2 ∷ [], (committed 0 false 8 1, old (pos 10) ∷ old (pos 20) ∷ new (pos 0) ∷ []))
+    ∷ (Store 2 2 ∷ [], (committed 0 false 8 1 1, old (pos 10) ∷ old (pos 20) ∷ new (pos 0) ∷ []))
     -- a load gives the program's own latest store
-    ∷ (Set 0 (pos 5) ∷ Store 0 1 ∷ Set 0 (pos 6) ∷ Store 0 1 ∷ Load 1 1 ∷ Store 1 0 ∷ [], (committed 0 false 8 2, new (pos 6) ∷ new (pos 6) ∷ old (negsuc 29) ∷ []))
+    ∷ (Set 0 (pos 5) ∷ Store 0 1 ∷ Set 0 (pos 6) ∷ Store 0 1 ∷ Load 1 1 ∷ Store 1 0 ∷ [], (committed 0 false 8 2 6, new (pos 6) ∷ new (pos 6) ∷ old (negsuc 29) ∷ []))
     -- set, to the ends of 64 bits
-    ∷ (Set 1 (negsuc 9223372036854775807) ∷ Store 1 0 ∷ Set 1 (pos 9223372036854775807) ∷ Store 1 1 ∷ [], (committed 0 false 8 2, new (negsuc 9223372036854775807) ∷ new (pos 9223372036854775807) ∷ old (negsuc 29) ∷ []))
+    ∷ (Set 1 (negsuc 9223372036854775807) ∷ Store 1 0 ∷ Set 1 (pos 9223372036854775807) ∷ Store 1 1 ∷ [], (committed 0 false 8 2 4, new (negsuc 9223372036854775807) ∷ new (pos 9223372036854775807) ∷ old (negsuc 29) ∷ []))
     -- add and subtract: the first register takes the result
-    ∷ (Load 0 0 ∷ Load 1 1 ∷ Add 0 1 ∷ Store 0 0 ∷ Store 1 1 ∷ [], (committed 0 false 8 2, new (pos 30) ∷ new (pos 20) ∷ old (negsuc 29) ∷ []))
-    ∷ (Load 0 0 ∷ Load 1 1 ∷ Subtract 0 1 ∷ Store 0 0 ∷ Store 1 1 ∷ [], (committed 0 false 8 2, new (negsuc 9) ∷ new (pos 20) ∷ old (negsuc 29) ∷ []))
+    ∷ (Load 0 0 ∷ Load 1 1 ∷ Add 0 1 ∷ Store 0 0 ∷ Store 1 1 ∷ [], (committed 0 false 8 2 5, new (pos 30) ∷ new (pos 20) ∷ old (negsuc 29) ∷ []))
+    ∷ (Load 0 0 ∷ Load 1 1 ∷ Subtract 0 1 ∷ Store 0 0 ∷ Store 1 1 ∷ [], (committed 0 false 8 2 5, new (negsuc 9) ∷ new (pos 20) ∷ old (negsuc 29) ∷ []))
     -- sums and differences at the ends of 64 bits, and past them
-    ∷ (Set 0 (pos 9223372036854775806) ∷ Set 1 (pos 1) ∷ Add 0 1 ∷ Store 0 0 ∷ [], (committed 0 false 8 1, new (pos 9223372036854775807) ∷ old (pos 20) ∷ old (negsuc 29) ∷ []))
-    ∷ (Set 0 (negsuc 9223372036854775806) ∷ Set 1 (pos 1) ∷ Subtract 0 1 ∷ Store 0 0 ∷ [], (committed 0 false 8 1, new (negsuc 9223372036854775807) ∷ old (pos 20) ∷ old (negsuc 29) ∷ []))
-    ∷ (Store 0 0 ∷ Set 0 (negsuc 9223372036854775807) ∷ Set 1 (negsuc 0) ∷ Add 0 1 ∷ [], nothing 2)
-    ∷ (Store 0 0 ∷ Set 1 (negsuc 9223372036854775807) ∷ Subtract 0 1 ∷ [], nothing 2)
+    ∷ (Set 0 (pos 9223372036854775806) ∷ Set 1 (pos 1) ∷ Add 0 1 ∷ Store 0 0 ∷ [], (committed 0 false 8 1 4, new (pos 9223372036854775807) ∷ old (pos 20) ∷ old (negsuc 29) ∷ []))
+    ∷ (Set 0 (negsuc 9223372036854775806) ∷ Set 1 (pos 1) ∷ Subtract 0 1 ∷ Store 0 0 ∷ [], (committed 0 false 8 1 4, new (negsuc 9223372036854775807) ∷ old (pos 20) ∷ old (negsuc 29) ∷ []))
+    ∷ (Store 0 0 ∷ Set 0 (negsuc 9223372036854775807) ∷ Set 1 (negsuc 0) ∷ Add 0 1 ∷ [], nothing 2 4)
+    ∷ (Store 0 0 ∷ Set 1 (negsuc 9223372036854775807) ∷ Subtract 0 1 ∷ [], nothing 2 3)
     -- a skip below 0 passes over as many operations as it says, up to the end; at 0 it passes over none
-    ∷ (Load 0 2 ∷ Skip 0 2 ∷ Fail ∷ Fail ∷ Store 0 0 ∷ [], (committed 0 false 8 1, new (negsuc 29) ∷ old (pos 20) ∷ old (negsuc 29) ∷ []))
-    ∷ (Set 0 (negsuc 0) ∷ Skip 0 1 ∷ Fail ∷ [], nothing 0)
-    ∷ (Skip 0 1 ∷ Fail ∷ [], nothing 1)
+    ∷ (Load 0 2 ∷ Skip 0 2 ∷ Fail ∷ Fail ∷ Store 0 0 ∷ [], (committed 0 false 8 1 3, new (negsuc 29) ∷ old (pos 20) ∷ old (negsuc 29) ∷ []))
+    ∷ (Set 0 (negsuc 0) ∷ Skip 0 1 ∷ Fail ∷ [], nothing 0 2)
+    ∷ (Skip 0 1 ∷ Fail ∷ [], nothing 1 2)
     -- fail: nothing is stored
-    ∷ (Load 0 1 ∷ Store 0 0 ∷ Fail ∷ [], nothing 1)
+    ∷ (Load 0 1 ∷ Store 0 0 ∷ Fail ∷ [], nothing 1 3)
     -- divide, to the nearest whole number, an exact half to the even neighbour: -7.5, -4.3 and 2.7, then 2.5, -2.5 and 3.5
-    ∷ (Load 0 2 ∷ Divide 0 4 ∷ Store 0 0 ∷ Load 0 2 ∷ Divide 0 7 ∷ Store 0 1 ∷ Set 0 (pos 8) ∷ Divide 0 3 ∷ Store 0 2 ∷ [], (committed 0 false 8 3, new (negsuc 7) ∷ new (negsuc 3) ∷ new (pos 3) ∷ []))
-    ∷ (Load 0 0 ∷ Divide 0 4 ∷ Store 0 0 ∷ Load 0 2 ∷ Divide 0 12 ∷ Store 0 1 ∷ Set 0 (pos 14) ∷ Divide 0 4 ∷ Store 0 2 ∷ [], (committed 0 false 8 3, new (pos 2) ∷ new (negsuc 1) ∷ new (pos 4) ∷ []))
+    ∷ (Load 0 2 ∷ Divide 0 4 ∷ Store 0 0 ∷ Load 0 2 ∷ Divide 0 7 ∷ Store 0 1 ∷ Set 0 (pos 8) ∷ Divide 0 3 ∷ Store 0 2 ∷ [], (committed 0 false 8 3 9, new (negsuc 7) ∷ new (negsuc 3) ∷ new (pos 3) ∷ []))
+    ∷ (Load 0 0 ∷ Divide 0 4 ∷ Store 0 0 ∷ Load 0 2 ∷ Divide 0 12 ∷ Store 0 1 ∷ Set 0 (pos 14) ∷ Divide 0 4 ∷ Store 0 2 ∷ [], (committed 0 false 8 3 9, new (pos 2) ∷ new (negsuc 1) ∷ new (pos 4) ∷ []))
     ∷ []
 
 pub operations-hold : map (λ x. ran (x .0)) programs ≡ map (λ x. x .1) programs
@@ -250,10 +250,10 @@ refusals =
     ∷ (optimistic 1 2 (encode (replicate 8 Fail)), pos 7 ∷ [])
     ∷ (optimistic 1 2 one, pos 7 ∷ [])
     ∷ (execute 4097, pos 14 ∷ pos 0 ∷ pos 0 ∷ [])
-    ∷ (final 16 0, pos 3 ∷ pos 0 ∷ pos 0 ∷ pos 0 ∷ pos 0 ∷ [])  -- spent, not pending, last timestamp
-    ∷ (final 1 1, pos 4 ∷ pos 0 ∷ pos 0 ∷ pos 0 ∷ pos 0 ∷ [])  -- not pending, last timestamp
-    ∷ (final 1 2, pos 8 ∷ pos 0 ∷ pos 0 ∷ pos 0 ∷ pos 0 ∷ [])  -- last timestamp
-    ∷ (final 2 1, pos 9 ∷ pos 0 ∷ pos 0 ∷ pos 0 ∷ pos 0 ∷ [])
+    ∷ (final 16 0, pos 3 ∷ pos 0 ∷ pos 0 ∷ pos 0 ∷ pos 0 ∷ pos 0 ∷ [])  -- spent, not pending, last timestamp
+    ∷ (final 1 1, pos 4 ∷ pos 0 ∷ pos 0 ∷ pos 0 ∷ pos 0 ∷ pos 0 ∷ [])  -- not pending, last timestamp
+    ∷ (final 1 2, pos 8 ∷ pos 0 ∷ pos 0 ∷ pos 0 ∷ pos 0 ∷ pos 0 ∷ [])  -- last timestamp
+    ∷ (final 2 1, pos 9 ∷ pos 0 ∷ pos 0 ∷ pos 0 ∷ pos 0 ∷ pos 0 ∷ [])
     ∷ (open-reader 2, pos 10 ∷ [])
     ∷ (open-reader 0, pos 11 ∷ [])
     ∷ (read 2 3, pos 10 ∷ pos 0 ∷ pos 0 ∷ [])  -- not open, no such object
@@ -350,7 +350,7 @@ leaving =
     ∷ (optimistic 1 3 one, done)
     ∷ (optimistic 1 2 one, done)
     ∷ (optimistic 2 1 one, done)
-    ∷ (final 1 2, committed 0 false 1 1)
+    ∷ (final 1 2, committed 0 false 1 1 1)
     ∷ (find 1 1, refused 8)
     ∷ (find 1 2, refused 8)
     ∷ (find 1 3, found 0 12)

@@ -3,16 +3,16 @@ use Rattle.arith.specs.Integer.{fits, rounds-up, quotient}
 use Rattle.operation.specs.Body.{register-count, longest-skip, most-divisor, listed, operations, allowed, each, is-well-formed}
 use Rattle.operation.specs.Encode.{written, encode}
 use Rattle.execution.specs.Bounds.{inside}
-use Rattle.execution.specs.Run.{sum, move, start, obey, step, steps, whole, counted}
+use Rattle.execution.specs.Run.{sum, move, start, obey, step, steps, whole, counted, whole-count}
 use Rattle.model.specs.Calls.{clients, most-work, last-timestamp, numbers, causes, refusal}
-use Rattle.model.specs.Replica.{held, prune, install, advance, worked, work-count, restarted, walk, validated, result, facts, commit, opened, perform, call, calls}
+use Rattle.model.specs.Replica.{held, prune, install, advance, worked, work-count, restarted, walk, validated, result, rework, facts, commit, opened, perform, call, calls}
 use Rattle.model.specs.Limits.{standard, small}
 
 -- bodies and runs
 unfoldable running : Unit {0}
-unfolding fits inside rounds-up quotient register-count longest-skip most-divisor listed operations allowed each is-well-formed written encode sum move start obey step steps whole counted
+unfolding fits inside rounds-up quotient register-count longest-skip most-divisor listed operations allowed each is-well-formed written encode sum move start obey step steps whole counted whole-count
 running = tt
 
 unfoldable pub computing : Unit {0}
-unfolding running clients most-work last-timestamp numbers causes refusal held prune install advance worked work-count restarted walk validated result facts commit opened perform call calls standard small
+unfolding running clients most-work last-timestamp numbers causes refusal held prune install advance worked work-count restarted walk validated result rework facts commit opened perform call calls standard small
 computing = tt

@@ -37,6 +37,7 @@ pub record Committed : Type 0 where
   pub validated : Bool  -- "kept", else "run again"
   pub timestamp : ℕ  -- the new commit timestamp
   pub stored : ℕ  -- how many objects were stored
+  pub operations : ℕ  -- how many operations were carried out: 0 where the early results were kept
 
 -- a version: a value with the commit timestamp of its store, or the start timestamp
 pub record Version : Type 0 where

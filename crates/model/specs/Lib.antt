@@ -31,6 +31,7 @@ pub mod ShapeCheck
 pub mod ShapeBounds
 pub mod ShapeParts
 pub mod ShapeKept
+pub mod Ceiling
 pub mod Computing
 pub mod Cases
 pub mod CallExamples

@@ -11,7 +11,7 @@ use Rattle.operation.specs.Body.{operations}
 use Rattle.operation.specs.declared.Operation.{Operation}
 use Rattle.execution.specs.Entries.{Entry, lookup}
 use Rattle.execution.specs.Bounds.{Bounds, no-bounds, inside}
-use Rattle.execution.specs.Run.{Table, Run, start, ended, steps, whole, counted, matches, over}
+use Rattle.execution.specs.Run.{Table, Run, start, ended, steps, whole, counted, whole-count, matches, over}
 use Rattle.model.specs.declared.Limits.{Limits}
 use Rattle.model.specs.Lists.{pick, keep, any, count, index, mapi}
 use Rattle.model.specs.Interface.{optimistic, execute, final, open-reader, close-reader, Query, read, find, show-body, Call, opening, update, query, Observation, version, found, body, Yield, done, executed, committed, observed, Answer}
@@ -167,18 +167,22 @@ validated T j = finished j && matches T (j .run .reads)
 unfoldable pub result : Table → Pending → Run
 result T j = cond (validated T j) (j .run) (whole T (program j))
 
+-- its rework, "the operations it carried out: none if kept, otherwise exactly those in the definition of that run" (S-10 of document 02)
+unfoldable pub rework : Table → Pending → ℕ
+rework T j = cond (validated T j) 0 (whole-count T (program j))
+
 -- ---- the calls
 
 unfoldable pub facts : Replica → Facts
 facts u =
     record { size = length (u .objects); timestamp = u .timestamp; lasts = u .lasts; queue = map (λ (j : Pending). j .sent) (u .pending); opened = map is-some (u .readers) }
 
--- a final delivery of a key with this run as its result, validated or not
-unfoldable pub commit : Replica → ℕ → ℕ → Bool → Run → Yield × Replica
-commit u c s valid p =
+-- a final delivery of a key with this run as its result, validated or not, for which w operations were carried out
+unfoldable pub commit : Replica → ℕ → ℕ → Bool → Run → ℕ → Yield × Replica
+commit u c s valid p w =
     let t : ℕ = suc (u .timestamp) in
     let v : Replica = with-lasts (set (u .lasts) c s) (with-timestamp t (with-objects (install t (opens (u .readers)) (p .writes) (u .objects)) u)) in (
-      committed (record { outcome = p .outcome; validated = valid; timestamp = t; stored = length (p .writes) }),
+      committed (record { outcome = p .outcome; validated = valid; timestamp = t; stored = length (p .writes); operations = w }),
       with-pending (walk (committed-table v) (keep (stays c s) (u .pending))) v,
     )
 
@@ -203,7 +207,9 @@ module _ (l : Limits) where
       let js : List Pending = worked (committed-table u) k (u .pending) in
       (executed (work-count (committed-table u) k (u .pending)) (count finished js), with-pending js u)
   perform u (update (final c s)) =
-      commit u c s (validated (committed-table u) (keyed u c s)) (result (committed-table u) (keyed u c s))
+      let T : Table = committed-table u in
+      let j : Pending = keyed u c s in
+      commit u c s (validated T j) (result T j) (rework T j)
   perform u (update (open-reader r)) = (done, with-readers (set (u .readers) r (some (u .timestamp))) u)
   perform u (update (close-reader r)) =
       let rs : List (Option ℕ) = set (u .readers) r none in

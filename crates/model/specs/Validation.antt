@@ -13,7 +13,7 @@ use Rattle.execution.specs.ReadAgreement.{put-either}
 use Rattle.execution.specs.Run.{Table, Move, get, put, go, halt, move, Run, start, known, got, apply, due, obey, step, steps, matches, over}
 use Rattle.model.specs.declared.Limits.{Limits}
 use Rattle.model.specs.Calls.{final, committed, refusal}
-use Rattle.model.specs.Replica.{Pending, Replica, committed-table, finished, walk, validated, result, facts, commit, perform, call}
+use Rattle.model.specs.Replica.{Pending, Replica, committed-table, finished, walk, validated, result, rework, facts, commit, perform, call}
 use Rattle.model.specs.EarlyResults.{Reached, Chain}
 use Rattle.model.specs.Simulation.{matches-append}
 use Rattle.model.specs.Invariant.{Invariant}
@@ -53,8 +53,8 @@ walk-matching S (j ∷ js) h =
 -- "its early outcome and stores are kept": a final delivery that follows the optimistic order is never run again
 pub first-validated : (l : Limits) (u : Replica) → Invariant l u → (j : Pending) (js : List Pending) → u .pending ≡ j ∷ js → finished j ≡ true
     → refusal l (facts u) (final (j .sent .client) (j .sent .sequence)) ≡ 0
-    → call l u (final (j .sent .client) (j .sent .sequence)) .0 ≡ committed (j .run .outcome) true (suc (u .timestamp)) (length (j .run .writes))
-unfolding call perform commit validated result
+    → call l u (final (j .sent .client) (j .sent .sequence)) .0 ≡ committed (j .run .outcome) true (suc (u .timestamp)) (length (j .run .writes)) 0
+unfolding call perform commit validated result rework
 first-validated l u v j js p f e =
     let h = rw p at (v .early) in
     rw

@@ -9,6 +9,7 @@ use native.Mathlib.Omega.{arith}
 use native.Mathlib.Nat.{sub-zero, suc-sub-suc}
 use Rattle.execution.specs.Run.{Table, steps, counted, over}
 use Rattle.execution.specs.ReadAgreement.{both, stay, steps-step}
+use Rattle.execution.specs.Counting.{counted-ended}
 use Rattle.model.specs.declared.Limits.{Limits}
 use Rattle.model.specs.Lists.{all, count}
 use Rattle.model.specs.Calls.{execute, Answer, executed, refusal}
@@ -39,9 +40,7 @@ module _ (S : Table) where
   advance-finished c j e i = record { sent = j .sent; run = stay S (program j) c (j .run) e i }
 
   used-finished : (c : ℕ) (j : Pending) → finished j ≡ true → used S c j ≡ 0
-  unfolding counted
-  used-finished zero j e = refl
-  used-finished (suc c) j e = rw e
+  used-finished c j e = counted-ended S (program j) c (j .run) e
 
   -- an unfinished one takes one operation, and then what it takes after it
   advance-one : (c : ℕ) (j : Pending) → advance S (suc c) j ≡ advance S c (advance S 1 j)
@@ -53,11 +52,11 @@ module _ (S : Table) where
   used-one c j e = rw e
 
   module _ (c : ℕ) (j : Pending) (js : List Pending) where
-    worked-finished : finished j ≡ true → worked S c (j ∷ js) ≡ j ∷ worked (over (j .run .writes) S) c js
+    pub worked-finished : finished j ≡ true → worked S c (j ∷ js) ≡ j ∷ worked (over (j .run .writes) S) c js
     unfolding worked
     worked-finished e = rw (advance-finished c j e, used-finished c j e, e, sub-zero)
 
-    count-finished : finished j ≡ true → work-count S c (j ∷ js) ≡ work-count (over (j .run .writes) S) c js
+    pub count-finished : finished j ≡ true → work-count S c (j ∷ js) ≡ work-count (over (j .run .writes) S) c js
     unfolding work-count
     count-finished e = rw (advance-finished c j e, used-finished c j e, e, sub-zero) (omega arith)
 

@@ -74,6 +74,9 @@ pub struct Committed {
     pub stamp: u32,
     /// Number of objects stored.
     pub stored: u32,
+    /// Operations carried out by this call: none if the early results were kept, else those of the run, at most 16.
+    /// Those passed over are not counted.
+    pub operations: u32,
 }
 
 /// The version that [`read`](crate::Replica::read) sees.

@@ -23,6 +23,7 @@ pub struct Committed {
     pub kept: u32,
     pub stamp: u32,
     pub stored: u32,
+    pub operations: u32,
 }
 
 #[repr(C)]

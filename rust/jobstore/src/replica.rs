@@ -258,7 +258,7 @@ impl<A: AsRef<[u8]> + AsMut<[u8]>> Replica<A> {
     }
 
     /// Carries out at most `count` operations (0 to 4,096) of the pending jobs, in optimistic order. It stops sooner only
-    /// when all of them are finished.
+    /// when all of them are finished. 16 for each pending job, so 512 at most, finish all of them.
     ///
     /// # Errors
     ///
@@ -284,10 +284,11 @@ impl<A: AsRef<[u8]> + AsMut<[u8]>> Replica<A> {
         let Key { client, sequence } = key.into();
         let (record, bodies) = self.areas_mut();
         // SAFETY: the slices are valid for their lengths and, each a borrow, overlap one another nowhere.
-        let raw::Committed { number, outcome, kept, stamp, stored } = unsafe {
+        let raw::Committed { number, outcome, kept, stamp, stored, operations } = unsafe {
             raw::jobstore_final(record.as_mut_ptr(), record.len(), bodies.as_mut_ptr(), bodies.len(), client, sequence)
         };
-        judged(number, Committed { outcome: Outcome::from_number(outcome), kept: kept == 1, stamp, stored })
+        let outcome = Outcome::from_number(outcome);
+        judged(number, Committed { outcome, kept: kept == 1, stamp, stored, operations })
     }
 
     /// Opens a reader, 0 to 6: it takes the current stamp and sees the table as it is now until it is closed.

@@ -1,4 +1,4 @@
-//! The ten cases of "A small depot", bounds, stamps beside values, and each refusal.
+//! The ten cases of "A small depot", bounds, stamps beside values, operations carried out, and each refusal.
 
 use jobstore::{Body, Bounds, Committed, Executed, Found, Outcome, Refusal, Replica, BODIES_LENGTH, RECORD_LENGTH};
 
@@ -37,8 +37,9 @@ fn executed(yielded: Executed) -> (u32, u32) {
     (yielded.operations, yielded.finished)
 }
 
-fn committed(yielded: Committed) -> (Outcome, bool, u32, u32) {
-    (yielded.outcome, yielded.kept, yielded.stamp, yielded.stored)
+/// Outcome, kept, stamp, objects stored, operations carried out.
+fn committed(yielded: Committed) -> (Outcome, bool, u32, u32, u32) {
+    (yielded.outcome, yielded.kept, yielded.stamp, yielded.stored, yielded.operations)
 }
 
 /// The refusal of a call, which changes no byte.
@@ -61,7 +62,7 @@ fn case_1_work_carries_out_8_operations() -> Result<(), Refusal> {
 fn case_2_all_kept_in_early_order() -> Result<(), Refusal> {
     let mut replica = worked()?;
     for client in [1, 2, 3] {
-        assert_eq!(committed(replica.deliver_final((client, 1))?), (Outcome::Done, true, client, 1));
+        assert_eq!(committed(replica.deliver_final((client, 1))?), (Outcome::Done, true, client, 1, 0));
     }
     assert_eq!(table(&replica, 3)?, [15, 15, 20]);
     Ok(())
@@ -70,9 +71,9 @@ fn case_2_all_kept_in_early_order() -> Result<(), Refusal> {
 #[test]
 fn case_3_final_c_a_b_with_no_work_between() -> Result<(), Refusal> {
     let mut replica = worked()?;
-    assert_eq!(committed(replica.deliver_final((3, 1))?), (Outcome::Done, false, 1, 1));
-    assert_eq!(committed(replica.deliver_final((1, 1))?), (Outcome::Done, true, 2, 1));
-    assert_eq!(committed(replica.deliver_final((2, 1))?), (Outcome::Done, false, 3, 1));
+    assert_eq!(committed(replica.deliver_final((3, 1))?), (Outcome::Done, false, 1, 1, 2));
+    assert_eq!(committed(replica.deliver_final((1, 1))?), (Outcome::Done, true, 2, 1, 0));
+    assert_eq!(committed(replica.deliver_final((2, 1))?), (Outcome::Done, false, 3, 1, 2));
     assert_eq!(table(&replica, 3)?, [15, 10, 10]);
     Ok(())
 }
@@ -80,7 +81,7 @@ fn case_3_final_c_a_b_with_no_work_between() -> Result<(), Refusal> {
 #[test]
 fn case_4_final_b_first_is_kept() -> Result<(), Refusal> {
     let mut replica = worked()?;
-    assert_eq!(committed(replica.deliver_final((2, 1))?), (Outcome::Done, true, 1, 1));
+    assert_eq!(committed(replica.deliver_final((2, 1))?), (Outcome::Done, true, 1, 1, 0));
     assert_eq!(executed(replica.work(0)?), (0, 2));
     Ok(())
 }
@@ -103,7 +104,7 @@ fn case_6_divide_rounds_a_half_to_the_even_neighbour() -> Result<(), Refusal> {
     for (value, quotient) in [(7, 4), (-7, -4), (5, 2), (-5, -2)] {
         let mut replica = Replica::opened(&[value], 0)?;
         replica.deliver_early((1, 1), Body::new().load(0, 0).divide(0, 2).store(0, 0))?;
-        assert_eq!(committed(replica.deliver_final((1, 1))?), (Outcome::Done, false, 1, 1));
+        assert_eq!(committed(replica.deliver_final((1, 1))?), (Outcome::Done, false, 1, 1, 3));
         assert_eq!(table(&replica, 1)?, [quotient]);
     }
     Ok(())
@@ -113,7 +114,7 @@ fn case_6_divide_rounds_a_half_to_the_even_neighbour() -> Result<(), Refusal> {
 fn case_7_an_overflow_stores_nothing_and_takes_a_stamp() -> Result<(), Refusal> {
     let mut replica = Replica::opened(&[i64::MAX], 0)?;
     replica.deliver_early((1, 1), Body::new().load(0, 0).set(1, 1).add(0, 1).store(0, 0))?;
-    assert_eq!(committed(replica.deliver_final((1, 1))?), (Outcome::Overflow, false, 1, 0));
+    assert_eq!(committed(replica.deliver_final((1, 1))?), (Outcome::Overflow, false, 1, 0, 3));
     assert_eq!(table(&replica, 1)?, [i64::MAX]);
     Ok(())
 }
@@ -123,7 +124,7 @@ fn case_8_lower_keys_of_the_client_leave() -> Result<(), Refusal> {
     let mut replica = Replica::opened(&[10], 0)?;
     replica.deliver_early((1, 1), add_5())?;
     replica.deliver_early((1, 2), add_5())?;
-    assert_eq!(committed(replica.deliver_final((1, 2))?), (Outcome::Done, false, 1, 1));
+    assert_eq!(committed(replica.deliver_final((1, 2))?), (Outcome::Done, false, 1, 1, 4));
     assert_eq!(replica.find((1, 1)), Err(Refusal::NotPending));
     assert_eq!(refused(&mut replica, |r| r.deliver_final((1, 1))), Some(Refusal::Spent));
     Ok(())
@@ -155,7 +156,7 @@ fn a_fail_stores_nothing_and_takes_a_stamp() -> Result<(), Refusal> {
     let mut replica = Replica::opened(&[10], 0)?;
     replica.deliver_early((1, 1), Body::new().store(0, 0).fail())?;
     assert_eq!(executed(replica.work(4096)?), (2, 1));
-    assert_eq!(committed(replica.deliver_final((1, 1))?), (Outcome::Fail, true, 1, 0));
+    assert_eq!(committed(replica.deliver_final((1, 1))?), (Outcome::Fail, true, 1, 0, 0));
     assert_eq!(table(&replica, 1)?, [10]);
     Ok(())
 }
@@ -176,7 +177,7 @@ fn a_store_at_a_bound_is_inside() -> Result<(), Refusal> {
     for (amount, left) in [(-20, 0), (30, 50), (0, 20)] {
         let mut replica = tanks()?;
         replica.deliver_early((1, 1), Body::new().load(0, 0).set(1, amount).add(0, 1).store(0, 0))?;
-        assert_eq!(committed(replica.deliver_final((1, 1))?), (Outcome::Done, false, 1, 1));
+        assert_eq!(committed(replica.deliver_final((1, 1))?), (Outcome::Done, false, 1, 1, 4));
         assert_eq!(table(&replica, 2)?, [left, 20]);
     }
     Ok(())
@@ -188,7 +189,7 @@ fn a_store_outside_stores_nothing_and_takes_a_stamp() -> Result<(), Refusal> {
         let mut replica = tanks()?;
         let body = Body::new().set(1, amount).load(0, 0).store(0, 1).add(0, 1).store(0, 0).fail();
         replica.deliver_early((1, 1), body)?;
-        assert_eq!(committed(replica.deliver_final((1, 1))?), (Outcome::Outside, false, 1, 0));
+        assert_eq!(committed(replica.deliver_final((1, 1))?), (Outcome::Outside, false, 1, 0, 5));
         assert_eq!(table(&replica, 2)?, [20, 20]);
     }
     Ok(())
@@ -203,8 +204,8 @@ fn early_runs_stop_at_a_store_outside() -> Result<(), Refusal> {
     assert_eq!(executed(replica.work(3)?), (3, 0));
     assert_eq!(executed(replica.work(1)?), (1, 1));
     assert_eq!(executed(replica.work(100)?), (7, 2));
-    assert_eq!(committed(replica.deliver_final((1, 1))?), (Outcome::Outside, true, 1, 0));
-    assert_eq!(committed(replica.deliver_final((2, 1))?), (Outcome::Done, true, 2, 2));
+    assert_eq!(committed(replica.deliver_final((1, 1))?), (Outcome::Outside, true, 1, 0, 0));
+    assert_eq!(committed(replica.deliver_final((2, 1))?), (Outcome::Done, true, 2, 2, 0));
     assert_eq!(table(&replica, 2)?, [20, 20]);
     Ok(())
 }
@@ -216,8 +217,8 @@ fn what_was_inside_early_may_be_outside_in_the_end() -> Result<(), Refusal> {
     replica.deliver_early((1, 1), Body::new().load(0, 0).set(1, 30).add(0, 1).store(0, 0))?;
     replica.deliver_early((2, 1), Body::new().load(0, 0).set(1, 24).subtract(0, 1).store(0, 0))?;
     assert_eq!(executed(replica.work(100)?), (8, 2));
-    assert_eq!(committed(replica.deliver_final((2, 1))?), (Outcome::Outside, false, 1, 0));
-    assert_eq!(committed(replica.deliver_final((1, 1))?), (Outcome::Done, true, 2, 1));
+    assert_eq!(committed(replica.deliver_final((2, 1))?), (Outcome::Outside, false, 1, 0, 4));
+    assert_eq!(committed(replica.deliver_final((1, 1))?), (Outcome::Done, true, 2, 1, 0));
     assert_eq!(table(&replica, 2)?, [50, 20]);
     Ok(())
 }
@@ -282,6 +283,97 @@ fn a_reader_goes_on_with_the_stamps_of_its_opening() -> Result<(), Refusal> {
     }
     replica.close_reader(1)?;
     assert_eq!((seen(&replica, 0, 0)?, seen(&replica, 2, 0)?), ((10, 7), (15, 9)));
+    Ok(())
+}
+
+/// Objects 0 and 1 with this value in the first, which takes -100 to 100.
+fn gauge(value: i64) -> Result<Replica, Refusal> {
+    Replica::opened_with_bounds(&[value, 0], Bounds { lower: &[-100, i64::MIN], upper: &[100, i64::MAX] }, 0)
+}
+
+/// Five operations; below 0 the third and the fourth are passed over.
+fn skipping() -> Body {
+    Body::new().load(0, 0).skip_if_negative(0, 2).set(1, 1).store(1, 0).store(0, 1)
+}
+
+/// Sixteen, all carried out.
+fn longest() -> Body {
+    (0..14).fold(Body::new().load(0, 0), |body, _| body.add(1, 0)).store(1, 1)
+}
+
+/// Passed-over operations are not counted. The one that stops a run is, and none behind it.
+#[test]
+fn a_run_again_tells_the_operations_that_it_carried_out() -> Result<(), Refusal> {
+    let past_the_end = Body::new().load(0, 0).skip_if_negative(0, 2).load(1, 1).fail();
+    let fail = Body::new().load(0, 0).store(0, 1).fail().load(1, 1).load(2, 1);
+    let fail_behind_a_skip =
+        Body::new().load(0, 0).skip_if_negative(0, 3).set(1, 1).set(2, 2).set(3, 3).fail().set(1, 1);
+    let overflow = Body::new().set(0, i64::MIN).load(1, 0).add(0, 1).store(0, 1).load(2, 1);
+    let outside = Body::new().set(0, 101).store(0, 1).store(0, 0).fail();
+    let runs = [
+        (skipping(), -1, Outcome::Done, 3),
+        (skipping(), 0, Outcome::Done, 5),
+        (past_the_end.clone(), -1, Outcome::Done, 2),
+        (past_the_end, 1, Outcome::Fail, 4),
+        (fail, 1, Outcome::Fail, 3),
+        (fail_behind_a_skip.clone(), -1, Outcome::Fail, 3),
+        (fail_behind_a_skip, 1, Outcome::Fail, 6),
+        (overflow.clone(), -1, Outcome::Overflow, 3),
+        (overflow, 1, Outcome::Done, 5),
+        (outside, 1, Outcome::Outside, 3),
+        (Body::new().fail(), 1, Outcome::Fail, 1),
+        (longest(), 1, Outcome::Done, 16),
+    ];
+    for (body, value, outcome, operations) in runs {
+        let mut replica = gauge(value)?;
+        replica.deliver_early((1, 1), &body)?;
+        let again = replica.deliver_final((1, 1))?;
+        assert_eq!((again.outcome, again.kept, again.operations), (outcome, false, operations), "{body:?} on {value}");
+    }
+    Ok(())
+}
+
+#[test]
+fn what_is_kept_carries_out_none() -> Result<(), Refusal> {
+    for (body, early) in [(longest(), 16), (skipping(), 3), (Body::new().fail(), 1)] {
+        let mut replica = gauge(-1)?;
+        replica.deliver_early((1, 1), body)?;
+        assert_eq!(executed(replica.work(100)?), (early, 1));
+        let committed = replica.deliver_final((1, 1))?;
+        assert_eq!((committed.kept, committed.operations), (true, 0));
+    }
+    Ok(())
+}
+
+/// The run that commits counts, whole: not what work did before, nor what it left.
+#[test]
+fn a_run_again_counts_from_its_start() -> Result<(), Refusal> {
+    for done in [0, 1, 15] {
+        let mut replica = gauge(7)?;
+        replica.deliver_early((1, 1), longest())?;
+        assert_eq!(executed(replica.work(done)?), (done, 0));
+        assert_eq!(committed(replica.deliver_final((1, 1))?), (Outcome::Done, false, 1, 1, 16));
+    }
+    // Early on -1 it passed two over; finally, on 1, all five are carried out.
+    let mut replica = gauge(-1)?;
+    replica.deliver_early((1, 1), skipping())?;
+    replica.deliver_early((2, 1), Body::new().set(0, 1).store(0, 0))?;
+    assert_eq!(executed(replica.work(100)?), (5, 2));
+    assert_eq!(committed(replica.deliver_final((2, 1))?), (Outcome::Done, true, 1, 1, 0));
+    assert_eq!(committed(replica.deliver_final((1, 1))?), (Outcome::Done, false, 2, 2, 5));
+    Ok(())
+}
+
+/// One less leaves the last job unfinished.
+#[test]
+fn work_of_16_operations_for_each_pending_job_finishes_all() -> Result<(), Refusal> {
+    let mut replica = gauge(0)?;
+    for pending in 1..=32 {
+        replica.deliver_early((pending % 16, pending), longest())?;
+        let (mut enough, mut less) = (replica.copy(), replica.copy());
+        assert_eq!(executed(enough.work(16 * pending)?), (16 * pending, pending));
+        assert_eq!(executed(less.work(16 * pending - 1)?), (16 * pending - 1, pending - 1));
+    }
     Ok(())
 }
 

@@ -42,7 +42,10 @@ fn work_of_512_operations_finishes_all() -> Result<(), Refusal> {
     for sequence in 1..=32 {
         replica.deliver_early((1, sequence), &longest)?;
     }
-    assert_eq!(replica.work(511)?.finished, 31);
+    let all = replica.copy().work(512)?;
+    assert_eq!((all.operations, all.finished), (512, 32));
+    let most = replica.work(511)?;
+    assert_eq!((most.operations, most.finished), (511, 31));
     assert_eq!(replica.work(1)?.finished, 32);
     Ok(())
 }
@@ -146,7 +149,8 @@ fn a_lost_early_message_is_made_up_for() -> Result<(), Refusal> {
     got.deliver_early((1, 1), add(0, 5))?;
     got.work(512)?;
     let (there, here) = (last(&mut got, (1, 1), &add(0, 5))?, last(&mut lost, (1, 1), &add(0, 5))?);
-    assert_eq!((there.kept, here.kept), (true, false));
+    assert_eq!((there.kept, there.operations), (true, 0));
+    assert_eq!((here.kept, here.operations), (false, 4));
     assert_eq!((there.outcome, there.stamp, there.stored), (here.outcome, here.stamp, here.stored));
     assert!(lost == got, "equal replicas have equal bytes");
     Ok(())
@@ -232,7 +236,8 @@ fn a_job_that_never_comes_leaves_with_its_clients_next() -> Result<(), Refusal> 
     replica.deliver_early((2, 1), copy(0, 1))?;
     replica.work(512)?;
     // It read what the job that never comes stored: run again, on the committed table.
-    assert!(!last(&mut replica, (2, 1), &copy(0, 1))?.kept);
+    let again = last(&mut replica, (2, 1), &copy(0, 1))?;
+    assert_eq!((again.kept, again.operations), (false, 2));
     assert_eq!(table(&replica), [10, 10, 30]);
     assert_eq!(replica.find((1, 1))?.place, 0);
 
@@ -306,8 +311,9 @@ fn early_results_of_another_rule_are_kept() -> Result<(), Refusal> {
     let stored = 19_664 + 80 + 16;
     assert_eq!(here.record()[stored], 2);
     here.areas_mut().0[stored] = 3;
-    assert!(here.deliver_final((1, 1))?.kept);
-    assert!(!there.deliver_final((1, 1))?.kept);
+    let (forged, sound) = (here.deliver_final((1, 1))?, there.deliver_final((1, 1))?);
+    assert_eq!((forged.kept, forged.operations), (true, 0));
+    assert_eq!((sound.kept, sound.operations), (false, 3));
     assert_eq!((table(&here), table(&there)), (vec![5, 3, 0], vec![5, 2, 0]));
     Ok(())
 }

@@ -1,7 +1,7 @@
 //! Three replicas with early orders, work and readers' moments of their own, and equal final deliveries.
 
 use crate::bodies::{valid, Taste};
-use crate::calls::{Calls, Opening};
+use crate::calls::{seen, Calls, Opening};
 use crate::comparison::{committed_objects, same, Difference};
 use crate::coverage::Coverage;
 use crate::face;
@@ -11,7 +11,7 @@ use crate::limits::{CLIENTS, STANDARD};
 use crate::openings::Objects;
 use crate::random::Random;
 use crate::serial::Serial;
-use jobstore::{raw, Bounds, Committed, Key, Reading, Refusal, Replica};
+use jobstore::{Bounds, Committed, Key, Reading, Refusal, Replica};
 
 #[derive(Clone)]
 struct Job {
@@ -147,9 +147,10 @@ pub fn compare_replicas(seed: u64, coverage: &mut Coverage) -> Result<(), Differ
         serial.early(key.client, key.sequence, body);
         let plain = serial.deliver_final(key.client, key.sequence);
         for site in 0..SITES {
-            same("final delivery", raw::Committed { kept: 0, ..face::committed(committed[site]) }, plain)?;
+            same("final delivery", seen(face::committed(committed[site])), plain)?;
             same("readers' answers", readers[site], readers[0])?;
         }
+        compare_rework(&committed)?;
         count_delivery(coverage, &committed);
         compare_readings(coverage, &mut random, &sites, &serial)?;
         // No stamp is left: what is pending stays so, and from here on places may run out at one replica alone.
@@ -158,6 +159,12 @@ pub fn compare_replicas(seed: u64, coverage: &mut Coverage) -> Result<(), Differ
         }
     }
     compare_ends(coverage, &sites, &serial)
+}
+
+/// Those that run again start from equal tables, so they carry out the same operations, whatever was done early.
+fn compare_rework(results: &[Delivery]) -> Result<(), Difference> {
+    let rework: Vec<u32> = results.iter().flatten().filter(|done| !done.kept).map(|done| done.operations).collect();
+    rework.windows(2).try_for_each(|pair| same("operations of those that run again", pair[0], pair[1]))
 }
 
 fn count_delivery(coverage: &mut Coverage, results: &[Delivery]) {

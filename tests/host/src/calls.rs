@@ -117,10 +117,15 @@ impl Answer {
             Answer::Executed(Executed { number, .. }) => {
                 Answer::Executed(Executed { number, operations: 0, finished: 0 })
             }
-            Answer::Committed(committed) => Answer::Committed(Committed { kept: 0, ..committed }),
+            Answer::Committed(committed) => Answer::Committed(seen(committed)),
             ref other => other.clone(),
         }
     }
+}
+
+/// What the plain table's final delivery has to equal: it keeps nothing, and counts no operations.
+pub fn seen(committed: Committed) -> Committed {
+    Committed { kept: 0, operations: 0, ..committed }
 }
 
 impl fmt::Debug for Opening {

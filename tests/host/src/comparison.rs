@@ -10,7 +10,7 @@ use crate::layout::{parse, print};
 use crate::library::Library;
 use crate::limits::{Limits, STANDARD};
 use crate::lists::Mix;
-use crate::observation::{observe, FIRST_RUN_AGAIN};
+use crate::observation::{observe, observe_ceiling, FIRST_RUN_AGAIN};
 use crate::random::Random;
 use crate::serial::{Object, Serial};
 
@@ -62,6 +62,7 @@ impl Comparison {
             self.compare_part(*client, *sequence)?;
         }
         self.compare_areas(&before)?;
+        self.compare_ceiling()?;
         if let (Call::Open(opening), Answer::Number(0)) = (call, &answer) {
             self.start = Some(opening.stamp);
         }
@@ -147,6 +148,19 @@ impl Comparison {
         let (printed_record, printed_bodies) = print(self.limits, state);
         same("record area's bytes", *record == printed_record, true)?;
         same("body area's bytes", *bodies == printed_bodies, true)
+    }
+
+    /// Work on a copy, with a body's most operations for each pending transaction: whatever early results the areas hold,
+    /// it finishes all of them.
+    pub fn compare_ceiling(&mut self) -> Result<(), Difference> {
+        let Some(state) = &self.independent.state else { return Ok(()) };
+        let pending = state.pending.len();
+        let count = (self.limits.operations * pending) as u32;
+        let executed = self.library.clone().work(count);
+        same("work for all pending", (executed.number, executed.finished as usize), (0, pending))?;
+        same("work for all pending: no more than its count", executed.operations <= count, true)?;
+        observe_ceiling(&mut self.coverage, self.limits, state, executed.operations == count);
+        Ok(())
     }
 }
 

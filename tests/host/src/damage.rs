@@ -261,6 +261,7 @@ pub fn compare_damaged(seed: u64, coverage: &mut Coverage) -> Result<(), Differe
     let mut comparison = Comparison::new(areas);
     let shaped = comparison.independent.state.is_some();
     let mut done = Vec::new();
+    comparison.compare_ceiling().map_err(|difference| report(seed, kind, &difference, &done))?;
     for _ in 0..if shaped { 30 } else { 4 } {
         let known = comparison.independent.state.as_ref().unwrap_or(&state);
         done.push(mix.call(&mut random, Some(known)));
@@ -277,7 +278,11 @@ pub fn compare_damaged(seed: u64, coverage: &mut Coverage) -> Result<(), Differe
 fn count_verdict(coverage: &mut Coverage, limits: Limits, kind: &str, areas: &Library, honest: &State) {
     match parse(limits, &areas.record, &areas.bodies) {
         Ok(state) if state == *honest => coverage.count(&format!("{kind}: nothing changed")),
-        Ok(_) => coverage.count(&format!("{kind}: passes")),
+        Ok(state) => {
+            coverage.count(&format!("{kind}: passes"));
+            let unfinished = state.finished() < state.pending.len();
+            coverage.count_if(unfinished, &format!("{kind}: passes, with transactions unfinished"));
+        }
         Err(sentence) => {
             coverage.count(&format!("{kind}: fails"));
             coverage.count(&format!("fails: {sentence}"));
@@ -307,7 +312,8 @@ pub fn required() -> Vec<String> {
     let sentences = layout::SENTENCES.iter().map(|sentence| format!("fails: {sentence}"));
     let calls = ["open", "early", "work", "final", "open reader", "read", "close", "find"];
     let refused = calls.iter().map(|call| format!("{call} 1"));
-    let others = ["other lengths: fails", "show body: empty", FIRST_RUN_AGAIN];
+    let unfinished = "forged: passes, with transactions unfinished";
+    let others = ["other lengths: fails", "show body: empty", unfinished, FIRST_RUN_AGAIN];
     let kept =
         (0..4).flat_map(|outcome| ["kept", "run again"].map(|verdict| format!("final: outcome {outcome}, {verdict}")));
     let verdicts = verdicts.chain(bounds_damage::required()).chain(sentences);

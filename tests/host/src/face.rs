@@ -28,10 +28,10 @@ fn number(answer: Result<(), Refusal>) -> u32 {
 
 pub fn committed(answer: Result<jobstore::Committed, Refusal>) -> Committed {
     match answer {
-        Ok(jobstore::Committed { outcome, kept, stamp, stored, .. }) => {
-            Committed { number: 0, outcome: outcome.number(), kept: u32::from(kept), stamp, stored }
+        Ok(jobstore::Committed { outcome, kept, stamp, stored, operations, .. }) => {
+            Committed { number: 0, outcome: outcome.number(), kept: u32::from(kept), stamp, stored, operations }
         }
-        Err(refusal) => Committed { number: refusal.number(), outcome: 0, kept: 0, stamp: 0, stored: 0 },
+        Err(refusal) => Committed { number: refusal.number(), outcome: 0, kept: 0, stamp: 0, stored: 0, operations: 0 },
     }
 }
 

@@ -257,7 +257,8 @@ impl Independent {
         let table = state.committed();
         let Transaction { client, sequence, body, run } = state.pending.remove(place);
         let kept = run.outcome.is_some() && run.matches(&table);
-        let run = if kept { run } else { whole(&body, self.limits, &table, &state.bounds, &mut self.coverage) };
+        let (run, operations) =
+            if kept { (run, 0) } else { whole(&body, self.limits, &table, &state.bounds, &mut self.coverage) };
         state.timestamp += 1;
         for &(object, value) in &run.writes {
             state.objects[object].push(Version { timestamp: state.timestamp, value });
@@ -266,8 +267,8 @@ impl Independent {
         state.last[client as usize] = sequence;
         state.pending.retain(|pending| pending.client != client || pending.sequence > sequence);
         self.coverage.add("begun transactions that restarted", state.walk() as u64);
-        let stored = run.writes.len() as u32;
-        Committed { number: 0, outcome: run.outcome.unwrap(), kept: u32::from(kept), stamp: state.timestamp, stored }
+        let (outcome, stored) = (run.outcome.unwrap(), run.writes.len() as u32);
+        Committed { number: 0, outcome, kept: u32::from(kept), stamp: state.timestamp, stored, operations }
     }
 }
 
@@ -337,7 +338,7 @@ impl Calls for Independent {
     }
 
     fn deliver_final(&mut self, client: u32, sequence: u32) -> Committed {
-        let refused = |number| Committed { number, outcome: 0, kept: 0, stamp: 0, stored: 0 };
+        let refused = |number| Committed { number, outcome: 0, kept: 0, stamp: 0, stored: 0, operations: 0 };
         let Some(state) = &mut self.state else { return refused(1) };
         if client as usize >= CLIENTS {
             return refused(3);
@@ -407,12 +408,19 @@ impl Calls for Independent {
     }
 }
 
-/// The body run from its start to its end on one table.
-fn whole(body: &[u8], limits: Limits, table: &[i64], bounds: &[Bounds], coverage: &mut Coverage) -> Run {
+/// The body run from its start to its end on one table, and the operations carried out. The place where the run ends
+/// counts those passed over too.
+fn whole(body: &[u8], limits: Limits, table: &[i64], bounds: &[Bounds], coverage: &mut Coverage) -> (Run, u32) {
     let program = decode(body, limits.operations, table.len()).unwrap();
     let mut run = Run::default();
+    let mut operations = 0;
     while run.outcome.is_none() {
         coverage.count(run.step(&program, table, bounds));
+        operations += 1;
     }
-    run
+    coverage.count_if(operations == limits.operations, "final: run again, as many operations as can be");
+    coverage.count_if(operations == program.len(), "final: run again, carries out every operation of its body");
+    coverage.count_if(operations < run.program_counter, "final: run again, passes operations over");
+    coverage.count_if(run.program_counter < program.len(), "final: run again, stops before its last operation");
+    (run, operations as u32)
 }

@@ -152,6 +152,15 @@ fn work(coverage: &mut Coverage, count: u32, executed: &Executed, before: &State
     }
 }
 
+/// Work for all pending transactions, begun in this state; `exhausted` is whether it carried out its whole count.
+pub fn observe_ceiling(coverage: &mut Coverage, limits: Limits, state: &State, exhausted: bool) {
+    let pending = state.pending.len();
+    coverage.count_if(exhausted && pending > 0, "work for all pending: carries out its whole count");
+    coverage.count_if(state.pending.iter().any(partly_run), "work for all pending: goes on with a partly run one");
+    let unfinished = state.finished() < pending;
+    coverage.count_if(unfinished && pending == limits.pending, "work for all pending: with every place taken");
+}
+
 fn partly_run(pending: &Transaction) -> bool {
     pending.run.outcome.is_none() && pending.run.program_counter > 0
 }
@@ -280,6 +289,9 @@ const EVENTS: &[&str] = &[
     "work: stops after its count",
     "work: stops sooner, all finished",
     "work: the highest count",
+    "work for all pending: carries out its whole count",
+    "work for all pending: goes on with a partly run one",
+    "work for all pending: with every place taken",
     "add",
     "add that overflows",
     "divide",
@@ -319,11 +331,15 @@ const EVENTS: &[&str] = &[
     "final: kept in order",
     "final: kept out of order",
     "final: lower numbers of the client leave",
+    "final: run again, as many operations as can be",
+    "final: run again, carries out every operation of its body",
     "final: run again, finished but a read changed",
     "final: run again, not begun",
     "final: run again, outside its bounds early alone",
     "final: run again, outside its bounds now alone",
     "final: run again, partly run",
+    "final: run again, passes operations over",
+    "final: run again, stops before its last operation",
     "final: run again, with another outcome than early",
     "final: stores several",
     "final: takes the highest stamp",

@@ -1,5 +1,6 @@
 //! "The plain table" of documents 01 and 02: it is fed the calls' arguments only and runs the finally delivered
-//! transactions one after another. What the paper leaves out of the comparison (work's counts, kept or run again) is 0.
+//! transactions one after another. What the paper leaves out of the comparison (work's counts, kept or run again, the
+//! operations of a final delivery) is 0.
 
 use crate::body::{decode, quotient, Operation};
 use crate::calls::{Calls, Opening};
@@ -120,7 +121,7 @@ impl Calls for Serial {
     }
 
     fn deliver_final(&mut self, client: u32, sequence: u32) -> Committed {
-        let refused = |number| Committed { number, outcome: 0, kept: 0, stamp: 0, stored: 0 };
+        let refused = |number| Committed { number, outcome: 0, kept: 0, stamp: 0, stored: 0, operations: 0 };
         if client > 15 {
             return refused(3);
         }
@@ -142,7 +143,7 @@ impl Calls for Serial {
         }
         self.last[client as usize] = sequence;
         self.pending.retain(|pending| pending.client != client || pending.sequence > sequence);
-        Committed { number: 0, outcome, kept: 0, stamp: self.timestamp, stored }
+        Committed { number: 0, outcome, kept: 0, stamp: self.timestamp, stored, operations: 0 }
     }
 
     fn open_reader(&mut self, reader: u32) -> u32 {

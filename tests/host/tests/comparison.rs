@@ -40,11 +40,13 @@ fn answers(all: &mut Comparison, call: Call, paper: Answer) {
     assert_eq!(all.apply(&call), Ok(paper), "{call:?}");
 }
 
-/// Final deliveries by client, each with kept or not, and the table that they leave, values with their stamps.
+/// Final deliveries by client, each with kept or not, and the table that they leave, values with their stamps. Only B
+/// and C are run again, and they have two operations.
 fn delivers(finals: [(u32, u32); 3], table: [(i64, u32); 3]) {
     let mut all = depot();
     for (stamp, (client, kept)) in (1..).zip(finals) {
-        let committed = Committed { number: 0, outcome: 0, kept, stamp, stored: 1 };
+        let operations = if kept == 1 { 0 } else { 2 };
+        let committed = Committed { number: 0, outcome: 0, kept, stamp, stored: 1, operations };
         answers(&mut all, Call::Final { client, sequence: 1 }, Answer::Committed(committed));
     }
     answers(&mut all, Call::OpenReader { reader: 6 }, Answer::Number(0));
@@ -79,7 +81,8 @@ fn pours(litres: i64, worked: bool, [operations, outcome, stored]: Run, table: [
         let executed = Executed { number: 0, operations, finished: 1 };
         answers(&mut all, Call::Work { count: 100 }, Answer::Executed(executed));
     }
-    let committed = Committed { number: 0, outcome, kept: u32::from(worked), stamp: START + 1, stored };
+    let (kept, operations) = if worked { (1, 0) } else { (0, operations) };
+    let committed = Committed { number: 0, outcome, kept, stamp: START + 1, stored, operations };
     answers(&mut all, Call::Final { client: 1, sequence: 1 }, Answer::Committed(committed));
     answers(&mut all, Call::OpenReader { reader: 0 }, Answer::Number(0));
     let stamp = if outcome == 0 { START + 1 } else { START };
@@ -113,6 +116,9 @@ fn small_limits() {
             let state = independent.state.as_ref().unwrap();
             let (record, bodies) = print(SMALL, state);
             assert_eq!(parse(SMALL, &record, &bodies).as_ref(), Ok(state));
+            let pending = state.pending.len() as u32;
+            let for_all = independent.clone().work(SMALL.operations as u32 * pending);
+            assert_eq!((for_all.number, for_all.finished), (0, pending));
             call = mix.call(&mut random, Some(state));
         }
     }

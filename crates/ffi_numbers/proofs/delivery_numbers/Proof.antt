@@ -20,7 +20,7 @@ unfolding numbers
 returns c = rw (c .before .before .d .given .1, flagged) (record { says = λ k e. refl })
 
 returns-2 : tie.Need-returns-2
-returns-2 c = rw (c .before .d2 .given .1) (turned-back 4 _)
+returns-2 c = rw (c .before .d2 .given .1) (turned-back 5 _)
 
 pub delivery-numbers-spec : {M : Type 1} → statement M
 delivery-numbers-spec = tie.close (tie.spec enum-known-d cast-t5 enum-known-d-2 returns returns-2)

@@ -2,7 +2,7 @@
 use mathlib.Core.Path.{refl}
 use native.Mathlib.Omega.{arith}
 use borrow.Author.Needs.{needs}
-use Rattle.final_delivery.specs.Commit.{found-laid, found-before, found-few, found-deciding, outcome-small, stored-few, found-publishing, found-marking, found-paired, found-walking, found-done}
+use Rattle.final_delivery.specs.Commit.{found-laid, found-before, found-few, found-deciding, outcome-small, stored-few, operations-few, found-publishing, found-marking, found-paired, found-walking, found-done}
 use Rattle.final_delivery.proofs.commit_at.Statement.{statement}
 use Rattle.final_delivery.proofs.commit_at.Tie as tie
 
@@ -25,6 +25,12 @@ published k = k .before .before .before .before
 
 abbrev marked : tie.After-leave → tie.After-mark
 marked k = k .before .before .before .before .before
+
+abbrev left : tie.After-walk → tie.After-leave
+left k = k .before .before .before .before .before .before .before
+
+abbrev decision-of : tie.After-walk → tie.After-decide
+decision-of k = decided (timed (published (marked (left k))))
 
 -- ---- the needs
 
@@ -83,21 +89,29 @@ walk-requires c κs =
 
 cast-t39 : tie.Need-cast-t39
 cast-t39 c =
-    let decision = c .before .before .before .before .before .before .before .before .before .before .before .before .before .before .before .before .before .before .before .before .before .before .before .before .before in
+    let decision = decision-of (c .before .before .before) in
     let places = placed decision in
     let s = start places in
     omega (arith, outcome-small (s .pre .0 .0) (s .pre .0 .1) (s .pre .1) (places .committed-places .ensures) (decision .decide .ensures))
 
 cast-t40 : tie.Need-cast-t40
 cast-t40 c =
-    let decision = c .before .before .before .before .before .before .before .before .before .before .before .before .before .before .before .before .before .before .before .before .before .before .before .before .before in
+    let decision = decision-of (c .before .before .before) in
     let places = placed decision in
     let s = start places in
     omega (arith, stored-few (s .pre .0 .0) (s .pre .0 .1) (s .pre .1) (places .committed-places .ensures) (decision .decide .ensures))
 
+cast-t41 : tie.Need-cast-t41
+cast-t41 c =
+    let decision = decision-of (c .before .before .before .before) in
+    let places = placed decision in
+    let s = start places in
+    omega (arith, operations-few (s .pre .0 .0) (s .pre .0 .1) (s .pre .1) (places .committed-places .ensures) (decision .decide .ensures))
+
 returns : tie.Need-returns
 returns c =
-    let queue = c .before .before .before .before .before .before .before .before .before .before in
+    let walk = c .before .before .before .before in
+    let queue = left walk in
     let numbers = marked queue in
     let writes = published numbers in
     let time = timed writes in
@@ -106,7 +120,7 @@ returns c =
     let s = start places in
     record {
       answered = λ p. found-done (s .pre .0 .0) (s .pre .0 .1) p (places .committed-places .ensures) (decision .decide .ensures) (time .next-timestamp .ensures) (writes .publish .ensures) (numbers .mark .ensures) (queue .leave .ensures)
-          (c .before .before .before .walk .ensures) refl refl refl refl;
+          (walk .walk .ensures) refl refl refl refl refl;
     }
 
 same-length : tie.Need-same-length
@@ -128,6 +142,7 @@ commit-at-spec =
     walk-requires
     cast-t39
     cast-t40
+    cast-t41
     same-length
     same-length-2
     returns)

@@ -45,7 +45,7 @@ returns c =
     let k = c .before .before .before .before .before .before in
     let g = gathered k in
     let s = start g in
-    record { ran = λ p. values-ran (s .pre .0 .0) (s .pre .0 .1) p (g .committed-values .ensures) (k .objects-place .ensures) _ _ _ _ _ (c .run .ensures .0) }
+    record { ran = λ p. values-ran (s .pre .0 .0) (s .pre .0 .1) p (g .committed-values .ensures) (k .objects-place .ensures) _ _ _ _ _ (c .run .ensures .0) (c .run .ensures .1 .0) }
 
 pub run-again-spec : {M : Type 1} → statement M
 run-again-spec =

@@ -18,6 +18,9 @@ cast-stamp c = search needs
 cast-stored : tie.Need-cast-stored
 cast-stored c = search needs
 
+cast-operations : tie.Need-cast-operations
+cast-operations c = search needs
+
 slice-aggregate-put-numbers : tie.Need-slice-aggregate-put-numbers
 slice-aggregate-put-numbers c = search needs
 
@@ -33,8 +36,8 @@ put-numbers-requires-2 c κs = search needs
 enum-known-r-2 : tie.Need-enum-known-r-2
 enum-known-r-2 c = search needs
 
-cast-t24 : tie.Need-cast-t24
-cast-t24 c = search needs
+cast-t25 : tie.Need-cast-t25
+cast-t25 c = search needs
 
 slice-aggregate-put-numbers-3 : tie.Need-slice-aggregate-put-numbers-3
 slice-aggregate-put-numbers-3 c = search needs
@@ -50,9 +53,9 @@ unfolding numbers
 returns c =
     let at-put = c .before .before in
     let at-test = at-put .before .before .before in
-    let at-arm = at-test .before .before .before .before .before in
+    let at-arm = at-test .before .before .before .before .before .before in
     let d = at-arm .r .given .0 .0 in
-    rw (at-arm .r .given .1, at-test .if1 .taken, as-signed (d .outcome) (omega arith), as-signed (d .timestamp .0) (omega arith), as-signed (d .stored) (omega arith))
+    rw (at-arm .r .given .1, at-test .if1 .taken, as-signed (d .outcome) (omega arith), as-signed (d .timestamp .0) (omega arith), as-signed (d .stored) (omega arith), as-signed (d .operations) (omega arith))
     (at-put .put-numbers .ensures)
 
 same-length-2 : tie.Need-same-length-2
@@ -63,9 +66,9 @@ unfolding numbers
 returns-2 c =
     let at-put = c .before .before in
     let at-test = at-put .before .before .before in
-    let at-arm = at-test .before .before .before .before .before in
+    let at-arm = at-test .before .before .before .before .before .before in
     let d = at-arm .r .given .0 .0 in
-    rw (at-arm .r .given .1, at-test .if1 .left, as-signed (d .outcome) (omega arith), as-signed (d .timestamp .0) (omega arith), as-signed (d .stored) (omega arith))
+    rw (at-arm .r .given .1, at-test .if1 .left, as-signed (d .outcome) (omega arith), as-signed (d .timestamp .0) (omega arith), as-signed (d .stored) (omega arith), as-signed (d .operations) (omega arith))
     (at-put .put-numbers2 .ensures)
 
 same-length-3 : tie.Need-same-length-3
@@ -86,12 +89,13 @@ put-delivery-spec =
     cast-outcome
     cast-stamp
     cast-stored
+    cast-operations
     slice-aggregate-put-numbers
     put-numbers-requires
     slice-aggregate-put-numbers-2
     put-numbers-requires-2
     enum-known-r-2
-    cast-t24
+    cast-t25
     slice-aggregate-put-numbers-3
     put-numbers-requires-3
     same-length

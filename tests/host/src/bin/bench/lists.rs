@@ -1,4 +1,5 @@
-//! Lists of transactions: how many a second, and how many keep their early results.
+//! Lists of transactions: how many a second, how many keep their early results, and how many operations the others cost
+//! once more.
 
 use crate::clock::Least;
 use crate::turns::{begin, check_sum, take, CALLS, EARLY, FINAL, WORK};
@@ -85,14 +86,16 @@ impl List {
 
     fn print(&self, scan: f64) {
         let kept = self.library.committed.iter().filter(|committed| committed.kept == 1).count();
+        let again: u32 = self.library.committed.iter().map(|committed| committed.operations).sum();
         let call = |call| self.library.time(call) / scan;
         let a_second = |time: f64| format!("{:>9.0} {:>6.2}", 1e9 / time, time / scan);
         println!(
-            "{:<10} {:>3} % {:>7} {:>4.0} % {:>7.2} {:>6.2} {:>6.2} {} {}",
+            "{:<10} {:>3} % {:>7} {:>4.0} % {:>6.2} {:>7.2} {:>6.2} {:>6.2} {} {}",
             if self.hot > 0 { "few hot" } else { "all alike" },
             self.late,
             self.readers,
             kept as f64 * 100.0 / TURNS as f64,
+            f64::from(again) / TURNS as f64,
             call(EARLY),
             call(WORK),
             call(FINAL),
@@ -104,9 +107,10 @@ impl List {
 
 pub fn print(lists: &[List], scan: f64) {
     println!("Transactions, {PENDING} pending: scans a call; transactions a second, and scans a transaction");
+    println!("(again: operations that final deliveries carried out, a transaction)");
     println!(
-        "{:<10} {:>5} {:>7} {:>6} {:>7} {:>6} {:>6} {:>16} {:>16}",
-        "objects", "late", "readers", "kept", "early", "work", "final", "library", "independent"
+        "{:<10} {:>5} {:>7} {:>6} {:>6} {:>7} {:>6} {:>6} {:>16} {:>16}",
+        "objects", "late", "readers", "kept", "again", "early", "work", "final", "library", "independent"
     );
     lists.iter().for_each(|list| list.print(scan));
 }
