@@ -13,13 +13,13 @@ use Rattle.execution.specs.Run.{Table, whole-count}
 use Rattle.model.specs.declared.Limits.{Limits}
 use Rattle.model.specs.Lists.{all}
 use Rattle.model.specs.ListLaws.{count-few}
-use Rattle.model.specs.Calls.{final, execute, Committed, Answer, refused, yielded, executed, committed, most-work, causes, refusal}
+use Rattle.model.specs.Calls.{final, execute, Committed, Answer, executed, committed, most-work, causes, refusal}
 use Rattle.model.specs.Replica.{Pending, Replica, with-pending, committed-table, program, finished, worked, work-count, keyed, validated, result, rework, facts, commit, perform, call}
 use Rattle.model.specs.ShapeCheck.{shaped}
 use Rattle.model.specs.ShapeKept.{call-shaped}
 use Rattle.model.specs.Ceiling.{keyed-short, all-short, rework-kept, rework-most, unfinished, finishes, finished-count}
 use Rattle.model.specs.Limits.{standard}
-use Rattle.layout.specs.Layout.{Areas, parse, print}
+use Rattle.layout.specs.Layout.{Areas, parse}
 use Rattle.layout.specs.Offsets.{Sane}
 use Rattle.layout.specs.OffsetLaws.{standard-sane}
 use Rattle.layout.specs.Fit.{fit, fit-says, fit-shape, parse-print}
