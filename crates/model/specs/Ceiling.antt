@@ -2,7 +2,6 @@
 -- record, those that no calls lead to included. Assumes nothing.
 use mathlib.Core.Path.{_≡_, refl, sym, ap, _∙_}
 use mathlib.Core.Bool.{Bool, true, false, not, cond}
-use mathlib.Core.Option.{some}
 use mathlib.Core.List.{List, [], _∷_}
 use Prim.Native.Nat.{ℕ, _+_, _*_, _-_, _≤_}
 use native.Mathlib.Omega.{arith}
@@ -14,11 +13,12 @@ use Rattle.execution.specs.Run.{Table, over, whole-count}
 use Rattle.execution.specs.ReadAgreement.{enough-end}
 use Rattle.execution.specs.Counting.{counted-most, whole-count-most}
 use Rattle.model.specs.declared.Limits.{Limits}
-use Rattle.model.specs.Lists.{pick, all, count}
+use Rattle.model.specs.Lists.{all, count}
 use Rattle.model.specs.ListLaws.{All, all-map, all-implies, count-all}
 use Rattle.model.specs.Calls.{Transaction}
-use Rattle.model.specs.Replica.{Pending, Replica, program, finished, advance, used, worked, work-count, pending-of, has-key, keyed, validated, rework}
+use Rattle.model.specs.Replica.{Pending, Replica, program, finished, advance, used, worked, work-count, has-key, keyed, validated, rework}
 use Rattle.model.specs.EarlyResults.{worked-sents}
+use Rattle.model.specs.Correspondence.{picked-all}
 use Rattle.model.specs.Work.{worked-finished, count-finished}
 use Rattle.model.specs.Shape.{Shape}
 
@@ -37,15 +37,7 @@ module _ (l : Limits) (u : Replica) (h : Shape l u) where
 
   -- of a key that is not pending, no body at all
   pub keyed-short : (c s : ℕ) → Short (l .operations) (keyed u c s)
-  keyed-short c s = by (u .pending) all-short
-    where
-      by : (js : List Pending) → All (Short (l .operations)) js → Short (l .operations) (pending-of (pick (has-key c s) js))
-      by [] g = omega (arith, length-operations [])
-      by (j ∷ js) g = one (has-key c s j) (by js (g .1))
-        where
-          one : (k : Bool) → Short (l .operations) (pending-of (pick (has-key c s) js)) → Short (l .operations) (pending-of (cond k (some j) (pick (has-key c s) js)))
-          one true rest = g .0
-          one false rest = rest
+  keyed-short c s = picked-all (Short (l .operations)) (has-key c s) (u .pending) (omega (arith, length-operations [])) all-short
 
 -- ---- rework
 

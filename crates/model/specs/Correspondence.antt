@@ -61,7 +61,7 @@ picked-bytes q (j ∷ l) = go′ (q (j .sent)) (picked-bytes q l)
     go′ true h = refl
     go′ false h = h
 
-picked-all : (P : Pending → Type 0) (q : Pending → Bool) (l : List Pending) → P (pending-of none) → All P l → P (pending-of (pick q l))
+pub picked-all : (P : Pending → Type 0) (q : Pending → Bool) (l : List Pending) → P (pending-of none) → All P l → P (pending-of (pick q l))
 picked-all P q [] d h = d
 picked-all P q (j ∷ l) d h = go′ (q j) (picked-all P q l d (h .1))
   where
