@@ -3,6 +3,7 @@ pub mod TraceLaws
 pub mod Agreement
 pub mod Lookups
 pub mod CeilingOnAreas
+pub mod DryRunOnAreas
 pub mod CasesOnAreas
 pub mod TwoKinds
 pub mod ContractTrace

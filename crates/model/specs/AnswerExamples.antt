@@ -5,11 +5,11 @@ use mathlib.Core.Bool.{Bool, true, false}
 use mathlib.Core.List.{List, [], _∷_, map}
 use Prim.Native.Nat.{ℕ}
 use lib.IntN.{ℤ, pos, negsuc}
-use lib.ListN.{getD}
+use lib.ListN.{getD, replicate}
 use Rattle.operation.specs.Encode.{encode}
 use Rattle.operation.specs.declared.Operation.the-variants.{Load, Store, Set, Add}
-use Rattle.model.specs.Calls.{Opening, by-values, plain, Call, opening, optimistic, execute, final, open-reader, read, close-reader, find, show-body}
-use Rattle.model.specs.Calls.{Answer, refused, done, executed, committed, value, found, body, numbers, seen, leaves, spent}
+use Rattle.model.specs.Calls.{Opening, by-values, plain, Call, opening, optimistic, execute, final, open-reader, read, close-reader, find, show-body, dry-run}
+use Rattle.model.specs.Calls.{Answer, refused, done, executed, committed, value, found, body, previewed, numbers, seen, leaves, spent}
 use Rattle.model.specs.Start.{start-of}
 use Rattle.model.specs.Replica.{opened, calls}
 use Rattle.model.specs.Limits.{small}
@@ -30,6 +30,8 @@ answers =
     ∷ ((close-reader 1, done), pos 0 ∷ [])
     ∷ ((find 1 2, found 3 45), pos 0 ∷ pos 3 ∷ pos 45 ∷ [])
     ∷ ((show-body 1 2, body (6 ∷ 7 ∷ [])), pos 6 ∷ pos 7 ∷ [])
+    ∷ ((dry-run 1 2, previewed 3 true 9 (negsuc 6 ∷ pos 5 ∷ [])), pos 0 ∷ pos 3 ∷ pos 1 ∷ pos 9 ∷ negsuc 6 ∷ pos 5 ∷ [])  -- kept
+    ∷ ((dry-run 1 2, previewed 3 false 9 (negsuc 6 ∷ pos 5 ∷ [])), pos 0 ∷ pos 3 ∷ pos 0 ∷ pos 9 ∷ negsuc 6 ∷ pos 5 ∷ [])  -- run again
     -- a refusal's number, and as many zeros as the call has results
     ∷ ((opening (plain [] 3), refused 2), pos 2 ∷ [])
     ∷ ((opening (by-values 1 (pos 4 ∷ []) (pos 5 ∷ []) (pos 6 ∷ []) 3), refused 15), pos 15 ∷ [])
@@ -40,6 +42,7 @@ answers =
     ∷ ((read 1 2, refused 13), pos 13 ∷ pos 0 ∷ pos 0 ∷ [])
     ∷ ((close-reader 1, refused 12), pos 12 ∷ [])
     ∷ ((find 1 2, refused 3), pos 3 ∷ pos 0 ∷ pos 0 ∷ [])
+    ∷ ((dry-run 1 2, refused 9), pos 9 ∷ pos 0 ∷ pos 0 ∷ pos 0 ∷ replicate 128 (pos 0))
     ∷ []
 
 pub numbers-hold : map (λ x. numbers (x .0 .0) (x .0 .1)) answers ≡ map (λ x. x .1) answers
@@ -89,6 +92,8 @@ compared-answers =
     ∷ (value (negsuc 6) 9, value (negsuc 6) 9)  -- "A reader's sameness of answers now includes the stamp"
     ∷ (found 3 45, found 3 45)
     ∷ (body (6 ∷ 7 ∷ []), body (6 ∷ 7 ∷ []))
+    ∷ (previewed 3 true 9 (negsuc 6 ∷ pos 5 ∷ []), previewed 3 false 9 (negsuc 6 ∷ pos 5 ∷ []))
+    ∷ (previewed 3 false 9 (negsuc 6 ∷ pos 5 ∷ []), previewed 3 false 9 (negsuc 6 ∷ pos 5 ∷ []))
     ∷ []
 
 pub seen-holds : map (λ x. seen (x .0)) compared-answers ≡ map (λ x. x .1) compared-answers

@@ -14,7 +14,7 @@ use Rattle.operation.specs.declared.Operation.the-variants.{Load, Store, Set, A
 use Rattle.execution.specs.Bounds.{Bounds, widest}
 use Rattle.execution.specs.Run.{start}
 use Rattle.model.specs.declared.Limits.{Limits}
-use Rattle.model.specs.Calls.{Opening, by-values, plain, Call, opening, optimistic, execute, final, open-reader, read, close-reader, find, show-body}
+use Rattle.model.specs.Calls.{Opening, by-values, plain, Call, opening, optimistic, execute, final, open-reader, read, close-reader, find, show-body, dry-run}
 use Rattle.model.specs.Calls.{Answer, refused, done, executed, committed, found, value, numbers, Transaction, Facts, refusal}
 use Rattle.model.specs.Start.{Version, start-of}
 use Rattle.model.specs.Serial as serial
@@ -119,6 +119,10 @@ order =
     ∷ (close-reader 1, 12)
     ∷ (find 16 4, 3)
     ∷ (find 1 4, 8)
+    ∷ (dry-run 16 4, 3)
+    ∷ (dry-run 1 4, 4)
+    ∷ (dry-run 1 8, 8)
+    ∷ (dry-run 1 7, 9)
     ∷ []
 
 pub order-holds : map (λ x. refusal small worst (x .0)) order ≡ map (λ x. x .1) order
@@ -265,6 +269,10 @@ refusals =
     ∷ (find 1 2, pos 8 ∷ pos 0 ∷ pos 0 ∷ [])
     ∷ (show-body 16 0, [])
     ∷ (show-body 1 2, [])
+    ∷ (dry-run 16 0, pos 3 ∷ replicate 131 (pos 0))  -- spent, not pending, last timestamp
+    ∷ (dry-run 1 1, pos 4 ∷ replicate 131 (pos 0))  -- not pending, last timestamp
+    ∷ (dry-run 1 2, pos 8 ∷ replicate 131 (pos 0))  -- last timestamp
+    ∷ (dry-run 2 1, pos 9 ∷ replicate 131 (pos 0))
     ∷ []
 
 -- the numbers that a call yields, and the replica after it

@@ -4,7 +4,8 @@ use Rattle.operation.specs.Body.{register-count, longest-skip, most-divisor, li
 use Rattle.operation.specs.Encode.{written, encode}
 use Rattle.execution.specs.Bounds.{inside}
 use Rattle.execution.specs.Run.{sum, move, start, obey, step, steps, whole, counted, whole-count}
-use Rattle.model.specs.Calls.{clients, most-work, last-timestamp, numbers, causes, refusal}
+use Rattle.model.specs.Calls.{clients, most-work, last-timestamp, preview-places, numbers, causes, refusal}
+use Rattle.model.specs.Previews.{placed}
 use Rattle.model.specs.Replica.{held, prune, install, advance, worked, work-count, restarted, walk, validated, result, rework, facts, commit, opened, perform, call, calls}
 use Rattle.model.specs.Limits.{standard, small}
 
@@ -14,5 +15,5 @@ unfolding fits inside rounds-up quotient register-count longest-skip most-diviso
 running = tt
 
 unfoldable pub computing : Unit {0}
-unfolding running clients most-work last-timestamp numbers causes refusal held prune install advance worked work-count restarted walk validated result rework facts commit opened perform call calls standard small
+unfolding running clients most-work last-timestamp preview-places numbers causes refusal placed held prune install advance worked work-count restarted walk validated result rework facts commit opened perform call calls standard small
 computing = tt

@@ -12,12 +12,13 @@ use Rattle.operation.specs.BodyLaws.{valid-drop}
 use Rattle.execution.specs.Run.{Run, start, steps}
 use Rattle.model.specs.declared.Limits.{Limits}
 use Rattle.model.specs.Lists.{pick, keep}
-use Rattle.model.specs.Interface.{optimistic, execute, final, open-reader, close-reader, Query, read, find, show-body, Call, opening, update, query, version, Yield, observed, Answer, yielded}
-use Rattle.model.specs.Calls.{compared, seen, Transaction, is-key, leaves, bytes-of, refusal, judged}
+use Rattle.model.specs.Interface.{optimistic, execute, final, open-reader, close-reader, Query, read, find, show-body, dry-run, Call, opening, update, query, Committed, version, previewed, Yield, committed, observed, Answer, yielded}
+use Rattle.model.specs.Calls.{compared-commit, compared-observation, compared, seen, Transaction, is-key, leaves, bytes-of, refusal, judged}
 use Rattle.model.specs.Start.{Start, start-of}
+use Rattle.model.specs.Previews.{preview-of}
 use Rattle.model.specs.Serial as serial
 use Rattle.model.specs.Serial.{Version, no-version, Serial, is-some, ran}
-use Rattle.model.specs.Replica.{Pending, Replica, newest, as-of, view, opens, prune, table, committed-table, install, walk, program, pending-of, has-key, keyed, stays, result, facts, commit, opened, reply, perform, call}
+use Rattle.model.specs.Replica.{Pending, Replica, newest, as-of, view, opens, prune, table, committed-table, install, walk, program, pending-of, has-key, keyed, stays, result, facts, commit, delivered, opened, reply, perform, call}
 use Rattle.model.specs.ListLaws.{All, all-at, all-implies, all-map, map-keep, index-map, map-replicate, map-set, map-all, map-map-same}
 use Rattle.model.specs.VersionLaws.{Until, newest-prune, as-of-prune, as-of-now, newest-install, as-of-install, table-values, views}
 use Rattle.model.specs.EarlyResults.{Somewhere, chain-somewhere, sents, worked-sents, walk-sents, result-whole}
@@ -110,9 +111,13 @@ module _ (l : Limits) where
         rw (result-whole (committed-table u) (keyed u c s) (keyed-somewhere c s), ← (table-values (u .objects) (u .bounds)))
         (serial-run (suc (u .timestamp)) (u .bounds) (map newest (u .objects)) before (keyed u c s .sent .bytes) (rw (length-map (u .objects) newest) (keyed-valid c s)))
 
-    final-same : (c s : ℕ) → Performs (perform l u (update (final c s))) (serial.perform l (serial-of u) (update (final c s)))
-    unfolding perform commit serial-of serial.perform serial.commit
-    final-same c s = rw (picked-bytes (is-key c s) (u .pending)) (answer, serial-≡ _ _ refl objects refl pending readers refl)
+    -- what it yields, and the state after it
+    abbrev Delivers : Committed × Replica → Committed × Serial → Type 0
+    Delivers r q = (compared-commit (r .0) ≡ q .0) × (serial-of (r .1) ≡ q .1)
+
+    delivered-same : (c s : ℕ) → Delivers (delivered u c s) (serial.delivered (serial-of u) c s)
+    unfolding commit serial-of serial.commit
+    delivered-same c s = rw (picked-bytes (is-key c s) (u .pending)) (answer, serial-≡ _ _ refl objects refl pending readers refl)
       where
         t : ℕ
         t = suc (u .timestamp)
@@ -135,7 +140,7 @@ module _ (l : Limits) where
         left : List Pending
         left = keep (stays c s) (u .pending)
 
-        answer : compared (perform l u (update (final c s)) .0) ≡ serial.commit (serial-of u) c s r .0
+        answer : compared-commit (delivered u c s .0) ≡ serial.commit (serial-of u) c s r .0
         answer = rw (g .stored, g .outcome)
 
         objects : map newest objs ≡ r .1
@@ -171,12 +176,13 @@ module _ (l : Limits) where
         go′ none = refl
         go′ (some r) = sym (List·getD-map (as-of r) (u .objects) o [])
 
-    reply-same : (q : Query) → reply l u q ≡ serial.reply l (serial-of u) q
+    reply-same : (q : Query) → compared-observation (reply l u q) ≡ serial.reply l (serial-of u) q
     unfolding serial-of
     reply-same (read r o) = ap version (read-same r o)
     reply-same (find c s) =
         rw (index-map (λ (j : Pending). j .sent) (is-key c s) (u .pending), picked-bytes (is-key c s) (u .pending))
     reply-same (show-body c s) = rw (facts-same u, picked-bytes (is-key c s) (u .pending))
+    reply-same (dry-run c s) = let h = delivered-same c s in λ i. previewed (preview-of (h .0 i) (h .1 i .objects))
 
     -- ---- every call
 
@@ -186,7 +192,7 @@ module _ (l : Limits) where
     perform-same (update (optimistic c s b)) =
         (refl, serial-≡ _ _ refl refl refl (map-append (λ (j : Pending). j .sent) (u .pending) _) refl refl)
     perform-same (update (execute k)) = (refl, serial-≡ _ _ refl refl refl (worked-sents (committed-table u) k (u .pending)) refl refl)
-    perform-same (update (final c s)) = final-same c s
+    perform-same (update (final c s)) = let h = delivered-same c s in (ap committed (h .0), h .1)
     perform-same (update (open-reader r)) = (refl, serial-≡ _ _ refl refl refl refl (open-reader-same r) refl)
     perform-same (update (close-reader r)) =
         let rs = opens (set (u .readers) r none) in

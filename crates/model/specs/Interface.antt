@@ -23,6 +23,7 @@ pub data Query : Type 0 where
   read : ℕ → ℕ → Query  -- reader, object
   find : ℕ → ℕ → Query  -- client, sequence number
   show-body : ℕ → ℕ → Query  -- client, sequence number
+  dry-run : ℕ → ℕ → Query  -- client, sequence number
 
 pub data Call : Type 0 where
   opening : Opening → Call
@@ -47,11 +48,19 @@ pub record Version : Type 0 where
 abbrev pub no-version : Version
 no-version = record { stamp = 0; value = pos 0 }
 
+-- what a dry run yields: what a final delivery of the key would come to now
+pub record Preview : Type 0 where
+  pub outcome : ℕ
+  pub validated : Bool  -- "kept", else "run again"
+  pub timestamp : ℕ  -- the commit timestamp that it would get
+  pub values : List ℤ  -- what each object would hold, and 0 past the last object
+
 -- what a query yields
 pub data Observation : Type 0 where
   version : Version → Observation  -- Read's: what its reader sees
   found : ℕ → ℕ → Observation  -- optimistic position, length of the body
   body : List ℕ → Observation
+  previewed : Preview → Observation
 
 -- what an accepted call yields
 pub data Yield : Type 0 where

@@ -2,6 +2,7 @@ pub mod Lists
 pub mod Interface
 pub mod Calls
 pub mod Start
+pub mod Previews
 pub mod Serial
 pub mod Replica
 pub mod Answers
@@ -37,4 +38,5 @@ pub mod Cases
 pub mod CallExamples
 pub mod ShapeExamples
 pub mod AnswerExamples
+pub mod PreviewExamples
 pub mod LookedAtExamples

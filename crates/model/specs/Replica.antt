@@ -14,9 +14,10 @@ use Rattle.execution.specs.Bounds.{Bounds, no-bounds, inside}
 use Rattle.execution.specs.Run.{Table, Run, start, ended, steps, whole, counted, whole-count, matches, over}
 use Rattle.model.specs.declared.Limits.{Limits}
 use Rattle.model.specs.Lists.{pick, keep, any, count, index, mapi}
-use Rattle.model.specs.Interface.{optimistic, execute, final, open-reader, close-reader, Query, read, find, show-body, Call, opening, update, query, Observation, version, found, body, Yield, done, executed, committed, observed, Answer}
+use Rattle.model.specs.Interface.{optimistic, execute, final, open-reader, close-reader, Query, read, find, show-body, dry-run, Call, opening, update, query, Committed, Observation, version, found, body, previewed, Yield, done, executed, committed, observed, Answer}
 use Rattle.model.specs.Calls.{Transaction, is-key, leaves, Facts, refusal, shown, judged}
 use Rattle.model.specs.Start.{Version, no-version, Start, start-of, Object, objects-from}
+use Rattle.model.specs.Previews.{preview-of}
 use Rattle.model.specs.Serial.{is-some}
 
 -- a pending transaction with its run on record ("early results")
@@ -178,13 +179,20 @@ facts u =
     record { size = length (u .objects); timestamp = u .timestamp; lasts = u .lasts; queue = map (λ (j : Pending). j .sent) (u .pending); opened = map is-some (u .readers) }
 
 -- a final delivery of a key with this run as its result, validated or not, for which w operations were carried out
-unfoldable pub commit : Replica → ℕ → ℕ → Bool → Run → ℕ → Yield × Replica
+unfoldable pub commit : Replica → ℕ → ℕ → Bool → Run → ℕ → Committed × Replica
 commit u c s valid p w =
     let t : ℕ = suc (u .timestamp) in
     let v : Replica = with-lasts (set (u .lasts) c s) (with-timestamp t (with-objects (install t (opens (u .readers)) (p .writes) (u .objects)) u)) in (
-      committed (record { outcome = p .outcome; validated = valid; timestamp = t; stored = length (p .writes); operations = w }),
+      record { outcome = p .outcome; validated = valid; timestamp = t; stored = length (p .writes); operations = w },
       with-pending (walk (committed-table v) (keep (stays c s) (u .pending))) v,
     )
+
+-- the final delivery of a pending key: what it yields, and the replica after it
+abbrev pub delivered : Replica → ℕ → ℕ → Committed × Replica
+delivered u c s =
+    let T : Table = committed-table u in
+    let j : Pending = keyed u c s in
+    commit u c s (validated T j) (result T j) (rework T j)
 
 module _ (l : Limits) where
   -- an accepted opening: nothing pending, readers closed
@@ -197,6 +205,8 @@ module _ (l : Limits) where
   reply u (read r o) = version (view (getD (u .readers) r none) (getD (u .objects) o []))
   reply u (find c s) = found (index (has-key c s) (u .pending)) (length (keyed u c s .sent .bytes))
   reply u (show-body c s) = body (shown (keyed u c s .sent .bytes) (refusal l (facts u) (query (find c s))))
+  reply u (dry-run c s) =
+      let r : Committed × Replica = delivered u c s in previewed (preview-of (r .0) (map newest (r .1 .objects)))
 
   -- an accepted call: what it yields, and the replica after it
   unfoldable pub perform : Replica → Call → Yield × Replica
@@ -206,10 +216,7 @@ module _ (l : Limits) where
   perform u (update (execute k)) =
       let js : List Pending = worked (committed-table u) k (u .pending) in
       (executed (work-count (committed-table u) k (u .pending)) (count finished js), with-pending js u)
-  perform u (update (final c s)) =
-      let T : Table = committed-table u in
-      let j : Pending = keyed u c s in
-      commit u c s (validated T j) (result T j) (rework T j)
+  perform u (update (final c s)) = let r : Committed × Replica = delivered u c s in (committed (r .0), r .1)
   perform u (update (open-reader r)) = (done, with-readers (set (u .readers) r (some (u .timestamp))) u)
   perform u (update (close-reader r)) =
       let rs : List (Option ℕ) = set (u .readers) r none in
