@@ -3,12 +3,16 @@ use libc::STDOUT_FILENO;
 use model::Delivery;
 use model::Execution;
 use model::Finding;
+use model::Preview;
+use model::Previewing;
 use model::Reading;
 use model::Reply;
 use text::buffer;
 use text::numerals;
-ghost use Rattle.model.specs.Calls.{execute, final, open-reader, read, find};
-ghost use Rattle.model.specs.Answers.{reply, execution, delivery, reading, finding};
+ghost use mathlib.Core.Path.{_≡_};
+ghost use mathlib.Core.List.{_∷_};
+ghost use Rattle.model.specs.Calls.{execute, final, open-reader, read, find, dry-run};
+ghost use Rattle.model.specs.Answers.{reply, execution, delivery, reading, finding, preview};
 ghost use Rattle.console.specs.Output.{Answered};
 
 // Each answer is a list of numbers: 0 and the results, or a refusal's number and zeros.
@@ -70,6 +74,45 @@ pub fn put_finding(out: &mut [u8], r: Finding) -> usize
     match r {
         Finding::Found(p, length) => { numerals::put_numbers(out, &[0, p.0 as i64, length as i64]) }
         Finding::Refused(k) => numerals::put_numbers(out, &[k as i64, 0, 0]),
+    }
+}
+
+// The numbers of a dry run's line: four, and the values behind them. In the loop the four and the first i values stand in it already.
+fn preview_line(number: i64, outcome: i64, kept: i64, stamp: i64, values: [i64; 128]) -> [i64; 132]
+    ensures { λ r. ⌜ r ≡ number ∷ outcome ∷ kept ∷ stamp ∷ values ⌝ }
+{
+    let mut line: [i64; 132] = [0; 132];
+    line[0] = number;
+    line[1] = outcome;
+    line[2] = kept;
+    line[3] = stamp;
+    let mut i = 0;
+    while i < 128 {
+        line[4 + i] = values[i];
+        i += 1;
+    }
+    line
+}
+
+// A dry run's: outcome, kept (1) or run again (0), the stamp that it would get, and the value that each object would hold.
+pub fn put_preview(out: &mut [u8], r: Preview) -> usize
+    ensures { λ n. ⌜ Answered (now (out .entry)) (dry-run 0 0) (preview r) (now (out .exit)) n ⌝ }
+{
+    let answer = r.answer;
+    let values = r.values;
+    match answer {
+        Previewing::Would(f) => {
+            let outcome = f.outcome as i64;
+            let kept = f.validated as i64;
+            let stamp = f.timestamp.0 as i64;
+            let line = preview_line(0, outcome, kept, stamp, values);
+            numerals::put_numbers(out, &line)
+        }
+        Previewing::Refused(k) => {
+            let zeros: [i64; 128] = [0; 128];
+            let line = preview_line(k as i64, 0, 0, 0, zeros);
+            numerals::put_numbers(out, &line)
+        }
     }
 }
 

@@ -3,15 +3,16 @@
 use ffi_numbers::Committed;
 use ffi_numbers::Executed;
 use ffi_numbers::Found;
+use ffi_numbers::Previewed;
 use ffi_numbers::Valued;
 use model::Finding;
 ghost use mathlib.Core.Path.{_≡_};
-ghost use Rattle.model.specs.Calls.{by-values, opening, optimistic, execute, final, open-reader, read, close-reader, find};
+ghost use Rattle.model.specs.Calls.{by-values, opening, optimistic, execute, final, open-reader, read, close-reader, find, dry-run};
 ghost use Rattle.model.specs.Limits.{standard};
 ghost use Rattle.model.specs.Answers.{finding};
 ghost use Rattle.layout.specs.Offsets.{record-length, bodies-length};
 ghost use Rattle.queue.specs.Shown.{part};
-ghost use Rattle.ffi_numbers.specs.AnswerNumbers.{lone, executed, committed, valued, found};
+ghost use Rattle.ffi_numbers.specs.AnswerNumbers.{lone, executed, committed, valued, found, previewed};
 ghost use Rattle.ffi.specs.Exported.{Exported};
 ghost use Rattle.ffi.specs.ExportedPart.{Low, ShownPart};
 
@@ -151,4 +152,17 @@ pub extern "C" fn jobstore_show_body(
     ensures { λ r. ⌜ ShownPart standard (now (records .entry), now (bodies .entry)) client sequence (r .start) (r .length) ⌝ }
 {
     finding_part(replica::find(records, bodies, client, sequence))
+}
+
+// Dry run of a pending key: what its final delivery would come to now.
+#[no_mangle]
+pub extern "C" fn jobstore_dry_run(
+    records: &[u8],
+    bodies: &[u8],
+    client: u32,
+    sequence: u32,
+) -> Previewed
+    ensures { λ r. ⌜ Exported (dry-run client sequence) (now (records .entry), now (bodies .entry)) (previewed r) (now (records .entry), now (bodies .entry)) ⌝ }
+{
+    ffi_numbers::preview_numbers(replica::dry_run(records, bodies, client, sequence))
 }

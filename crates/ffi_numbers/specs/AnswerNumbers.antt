@@ -11,6 +11,7 @@ use Rattle.ffi_numbers.specs.declared.Executed.{Executed}
 use Rattle.ffi_numbers.specs.declared.Committed.{Committed}
 use Rattle.ffi_numbers.specs.declared.Valued.{Valued}
 use Rattle.ffi_numbers.specs.declared.Found.{Found}
+use Rattle.ffi_numbers.specs.declared.Previewed.{Previewed}
 
 -- ---- the numbers of each result, in the struct's order
 
@@ -29,6 +30,9 @@ valued r = pos (r .number) ∷ r .value ∷ pos (r .stamp) ∷ []
 
 abbrev pub found : Found → List ℤ
 found r = pos (r .number) ∷ pos (r .place) ∷ pos (r .length) ∷ []
+
+abbrev pub previewed : Previewed → List ℤ
+previewed r = pos (r .number) ∷ pos (r .outcome) ∷ pos (r .kept) ∷ pos (r .stamp) ∷ r .values
 
 -- these are the numbers of the answer to any call that yields k beside the first
 pub record Numbered (k : ℕ) (result : List ℤ) (x : Answer) : Type 0 where

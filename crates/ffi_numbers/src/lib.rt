@@ -2,10 +2,14 @@
 use model::Delivery;
 use model::Execution;
 use model::Finding;
+use model::Preview;
+use model::Previewing;
 use model::Reading;
 use model::Reply;
-ghost use Rattle.model.specs.Answers.{reply, execution, delivery, reading, finding};
-ghost use Rattle.ffi_numbers.specs.AnswerNumbers.{lone, executed, committed, valued, found, Numbered};
+ghost use Prim.Native.Nat.{_+_};
+ghost use Rattle.model.specs.Calls.{preview-places};
+ghost use Rattle.model.specs.Answers.{reply, execution, delivery, reading, finding, preview};
+ghost use Rattle.ffi_numbers.specs.AnswerNumbers.{lone, executed, committed, valued, found, previewed, Numbered};
 
 // Work: operations carried out, pending transactions now finished.
 #[repr(C)]
@@ -40,6 +44,16 @@ pub struct Found {
     pub number: u32,
     pub place: u32,
     pub length: u32,
+}
+
+// Dry run: what a final delivery would come to now, and the value that each object would hold after it, 0 past the last object.
+#[repr(C)]
+pub struct Previewed {
+    pub number: u32,
+    pub outcome: u32,
+    pub kept: u32,
+    pub stamp: u32,
+    pub values: [i64; 128],
 }
 
 // An answer that is 0 or a refusal, as its number.
@@ -127,5 +141,32 @@ pub fn finding_numbers(f: Finding) -> Found
             place: 0,
             length: 0,
         },
+    }
+}
+
+// A dry run's answer in the paper's numbers. A refusal has zeros for the values, whatever stands beside it.
+pub fn preview_numbers(p: Preview) -> Previewed
+    ensures { λ r. ⌜ Numbered (3 + preview-places) (previewed r) (preview p) ⌝ }
+{
+    let answer = p.answer;
+    let values = p.values;
+    match answer {
+        Previewing::Would(f) => Previewed {
+            number: 0,
+            outcome: f.outcome,
+            kept: f.validated as u32,
+            stamp: f.timestamp.0,
+            values,
+        },
+        Previewing::Refused(k) => {
+            let zeros: [i64; 128] = [0; 128];
+            Previewed {
+                number: k,
+                outcome: 0,
+                kept: 0,
+                stamp: 0,
+                values: zeros,
+            }
+        }
     }
 }

@@ -1,61 +1,45 @@
 -- A commit on both areas, step by step: what `commit_at` and its parts ask and leave. Assumes nothing.
 use mathlib.Core.Path.{_≡_, refl, sym, ap, ap₂, _∙_, subst}
-use mathlib.Core.Bool.{true}
-use mathlib.Core.Option.{none}
 use mathlib.Core.List.{List, map, map-map}
-use Prim.Native.Nat.{ℕ, suc, _+_, _^_, _≤_, _<_}
+use Prim.Native.Nat.{ℕ, suc, _^_, _≤_, _<_}
 use native.Mathlib.Omega.{arith}
 use lib.IntN.{ℤ}
 use lib.ListN.{length, getD, set}
 use Rattle.cells.specs.Cells.{cells, Put}
-use Rattle.operation.specs.Body.{is-well-formed}
-use Rattle.operation.specs.BodyLaws.{length-operations, formed}
 use Rattle.execution.specs.Entries.{Entry}
 use Rattle.execution.specs.Run.{Table}
-use Rattle.execution.specs.Arrays.{capacity, entries}
-use Rattle.execution.specs.RunShape.{Shaped, Entries}
+use Rattle.execution.specs.Arrays.{entries}
+use Rattle.execution.specs.RunShape.{Shaped}
 use Rattle.model.specs.declared.Limits.{Limits}
 use Rattle.model.specs.declared.Commit.{Commit}
 use Rattle.model.specs.declared.Delivery as deliveries
 use Rattle.model.specs.Lists.{keep}
-use Rattle.model.specs.ListLaws.{All, all-keep, all-in}
-use Rattle.model.specs.Calls.{committed as committed-answer, Yield, yielded, Transaction, clients, last-timestamp}
+use Rattle.model.specs.ListLaws.{All, all-keep}
+use Rattle.model.specs.Calls.{committed as committed-answer, Committed, Yield, yielded, Transaction, clients}
 use Rattle.model.specs.Answers.{delivery}
 use Rattle.model.specs.Serial.{Version}
 use Rattle.model.specs.Replica as model
-use Rattle.model.specs.Replica.{Pending, Replica, opens, table, committed-table, program, stays, validated, result, rework, commit, pending-of}
-use Rattle.model.specs.Ceiling.{rework-most}
+use Rattle.model.specs.Replica.{Pending, Replica, opens, table, program, stays, commit}
 use Rattle.model.specs.VersionLaws.{length-install}
 use Rattle.model.specs.EarlyResults.{walk-sents}
-use Rattle.model.specs.Shape.{Shape}
 use Rattle.model.specs.ShapeRuns.{AllShaped}
-use Rattle.model.specs.ShapeParts.{pending-part, table-fits, result-shaped, install-versions}
+use Rattle.model.specs.ShapeParts.{pending-part, install-versions}
 use Rattle.layout.specs.Layout.{body-of}
 use Rattle.layout.specs.Offsets.{Sane, last-at, size-at}
-use Rattle.layout.specs.Holds.{Holds, HoldsBodies, with-timestamp, with-lasts, with-pending, holds-long}
-use Rattle.layout.specs.Reading.{get-size, get-timestamp}
+use Rattle.layout.specs.Holds.{Holds, HoldsBodies, with-timestamp, with-lasts, with-pending}
 use Rattle.layout.specs.Writing.{put-timestamp, put-last}
 use Rattle.layout.specs.Bodies.{same-bodies}
-use Rattle.committed_table.specs.Committed as committed
-use Rattle.execution.specs.Listed.{length-entries}
+use Rattle.final_admission.specs.NextTimestamp.{NextAfter, next-timestamp}
 use Rattle.final_commit.specs.Install.{installed}
 use Rattle.final_commit.specs.Publish.{Few, Publishing, Publishes}
-use Rattle.final_commit.specs.Positions.{at, fits-at, Both}
+use Rattle.final_commit.specs.Positions.{Both}
 use Rattle.final_requeue.specs.Leave.{Paired}
 use Rattle.final_requeue.specs.Clear.{Left}
 use Rattle.final_walk.specs.Places.{Placed}
 use Rattle.final_walk.specs.Walk.{Walking, Walks}
-use Rattle.final_delivery.specs.declared.Decision.{Decision}
-use Rattle.final_delivery.specs.Decide.{Local, Decided, Deciding, Decides, shaped-some}
-
--- ---- the next timestamp
-
-pub record Before (b : List ℕ) : Type 0 where
-  pub inside : 8 ≤ length b
-  pub low : getD (cells b) 0 0 + 1 < 2 ^ 32
-
-pub record NextAfter (b : List ℕ) (t : ℕ) : Type 0 where
-  pub next : t ≡ getD (cells b) 0 0 + 1
+use Rattle.final_decision.specs.declared.Decision.{Decision}
+use Rattle.final_decision.specs.Decide.{Local, Decides, shaped-some}
+use Rattle.final_decision.specs.Found.{Found, commit-at, placed, decided, writes-named, stored-count}
 
 -- ---- timestamp and last number
 
@@ -83,179 +67,123 @@ marked {l} {t} {cl} {sq} {o} {b} {d} {e} s tt-small small h eo k =
 
 -- ---- the commit of the transaction at position i
 
-abbrev pub commit-at : Replica → ℕ → ℕ → ℕ → Yield × Replica
-commit-at u c q i =
-    let j : Pending = at (u .pending) i in
-    let T : Table = committed-table u in
-    commit u c q (validated T j) (result T j) (rework T j)
-
--- both areas hold a replica in shape, one of whose transactions stands at position i
-pub record Found (l : Limits) (b c : List ℕ) (cl i : ℕ) : Type 0 where
-  pub replica : Replica
-  pub holds : Holds l b replica
-  pub bodies : HoldsBodies l c replica
-  pub shape : Shape l replica
-  pub there : i < length (replica .pending)
-  pub client : cl < clients
-  pub before : replica .timestamp < last-timestamp
-
 -- the answer r, and what both areas hold
-pub record Answered (l : Limits) (b c : List ℕ) (a : Yield × Replica) (r : Commit) : Type 0 where
-  pub answer : delivery (deliveries.the-variants.Committed r) ≡ yielded (a .0)
+pub record Answered (l : Limits) (b c : List ℕ) (a : Committed × Replica) (r : Commit) : Type 0 where
+  pub answer : delivery (deliveries.the-variants.Committed r) ≡ yielded (Yield.committed (a .0))
   pub areas : Both l b c (a .1)
 
 -- the areas, b and c before, are d and e after it
 pub record Commits (l : Limits) (cl sq i : ℕ) (b c d e : List ℕ) (r : Commit) : Type 0 where
-  pub answered : (p : Found l b c cl i) → Answered l d e (commit-at (p .replica) cl sq i) r
+  pub answered : (p : Found l b c i) → cl < clients → Answered l d e (commit-at (p .replica) cl sq i) r
 
-module _ {l : Limits} {b c : List ℕ} {cl i : ℕ} (s : Sane l) (m : Local l) (p : Found l b c cl i) where
+module _ {l : Limits} {b c : List ℕ} {cl i : ℕ} (s : Sane l) (m : Local l) (p : Found l b c i) (known : cl < clients) where
   abbrev u : Replica
   u = p .replica
-
-  abbrev j : Pending
-  j = at (p .replica .pending) i
-
-  abbrev T : Table
-  T = committed-table (p .replica)
-
-  pub found-laid : committed.Laid l b
-  found-laid =
-      record { whole = holds-long l s b u (p .holds); few = omega (arith, get-size l s b u (p .holds), p .holds .fits .objects .0); room = m .objects }
-
-  pub found-before : Before b
-  unfolding last-timestamp
-  found-before =
-      record { inside = omega (arith, holds-long l s b u (p .holds)); low = omega (arith, get-timestamp l s b u (p .holds), p .before) }
 
   pub found-few : Few l
   found-few = record { sane = s; readers = m .readers }
 
-  body-formed : is-well-formed (l .operations) (length (u .objects)) (body-of j) ≡ true
-  body-formed = fits-at (λ (x : Pending). x .sent) (λ (x : Transaction). is-well-formed (l .operations) (length (u .objects)) (x .bytes) ≡ true) (u .pending) i (p .there) (p .shape .bodies)
-
-  runs : AllShaped (length (u .objects)) (u .pending)
-  runs = pending-part l u (p .shape) .runs
-
-  shaped-result : Shaped (length (u .objects)) (program j) (result T j)
-  shaped-result =
-      result-shaped l (length (u .objects)) T (table-fits (u .objects) (u .bounds) (p .shape .encoded .values)) j body-formed
-      (all-in (λ (x : Pending). Shaped (length (u .objects)) (program x) (x .run)) (u .pending) i (pending-of none) runs (p .there))
-
   -- ps are the places of the committed state
   module _ {ps : List ℕ} (e : Placed l (getD (cells b) (size-at l) 0) ps) where
-    pub placed : Placed l (length (u .objects)) ps
-    placed = subst (λ (n : ℕ). Placed l n ps) (get-size l s b u (p .holds)) e
-
-    abbrev pub found-deciding : Deciding l b c i ps
-    found-deciding = record { replica = u; holds = p .holds; bodies = p .bodies; shape = p .shape; there = p .there; placed = placed }
-
-    -- the decision
-    module _ {d : Decision} {wo : List ℕ} {wv : List ℤ} (g : Decides l b c i ps d wo wv) where
+    -- the decision and the next timestamp
+    module _ {d : Decision} {wo : List ℕ} {wv : List ℤ} {t : ℕ} (g : Decides l b c i ps d wo wv) (et : NextAfter b t) where
       abbrev ws : List Entry
       ws = entries (d .stored) wo wv
 
-      decided : Decided T j d wo wv
-      decided = g .decided found-deciding
+      pub next : t ≡ suc (u .timestamp)
+      next = next-timestamp s (p .holds) et
 
-      pub writes-named : Entries (length (u .objects)) ws
-      writes-named = subst (Entries (length (u .objects))) (sym (decided .writes)) (shaped-result .writes)
+      abbrev pub found-publishing : Publishing l b t ws
+      found-publishing =
+          record { replica = u; holds = p .holds; versions = p .shape .versions; next = next; writes = writes-named s m p e g }
 
-      pub outcome-small : d .outcome ≤ 3
-      outcome-small = omega (arith, decided .outcome, shaped-result .outcome)
+      -- the writes are installed
+      module _ {b1 : List ℕ} (h1 : Publishes l t ws b b1) where
+        pub published : Holds l b1 (installed t ws u)
+        published = h1 .holds found-publishing
 
-      pub stored-few : d .stored ≤ capacity
-      stored-few =
-          let k = shaped-result in
-          let f = formed (l .operations) (length (u .objects)) (body-of j) body-formed in
-          omega (arith, length-entries (d .stored) wo wv, ap length (decided .writes), k .room, k .within, length-operations (body-of j), f .most, m .operations)
+        abbrev pub found-marking : Marking l b1 cl
+        found-marking = record { replica = installed t ws u; holds = published; client = known }
 
-      pub operations-few : d .operations ≤ capacity
-      operations-few =
-          let f = formed (l .operations) (length (u .objects)) (body-of j) body-formed in
-          omega (arith, decided .operations, rework-most T j, length-operations (body-of j), f .most, m .operations)
+        -- timestamp and last number are stored
+        module _ {sq : ℕ} {b2 : List ℕ} (h2 : Marks l t cl sq b1 b2) where
+          abbrev v : Replica
+          v = with-lasts (set (u .lasts) cl sq) (with-timestamp t (installed t ws u))
 
-      -- the next timestamp
-      module _ {t : ℕ} (et : NextAfter b t) where
-        pub next : t ≡ suc (u .timestamp)
-        next = omega (arith, et .next, get-timestamp l s b u (p .holds))
+          pub stored : Holds l b2 v
+          stored = h2 .holds found-marking
 
-        abbrev pub found-publishing : Publishing l b t ws
-        found-publishing = record { replica = u; holds = p .holds; versions = p .shape .versions; next = next; writes = writes-named }
+          pub same-places : HoldsBodies l c v
+          same-places = same-bodies l s c u (p .bodies) v (stored .fits) refl
 
-        -- the writes are installed
-        module _ {b1 : List ℕ} (h1 : Publishes l t ws b b1) where
-          pub published : Holds l b1 (installed t ws u)
-          published = h1 .holds found-publishing
+          abbrev pub found-paired : Paired l b2 c
+          found-paired = record { replica = v; holds = stored; bodies = same-places }
 
-          abbrev pub found-marking : Marking l b1 cl
-          found-marking = record { replica = installed t ws u; holds = published; client = p .client }
+          -- those that leave have left
+          module _ {b3 c3 : List ℕ} (h3 : Left l cl sq b2 c b3 c3) where
+            abbrev js : List Pending
+            js = keep (stays cl sq) (u .pending)
 
-          -- timestamp and last number are stored
-          module _ {sq : ℕ} {b2 : List ℕ} (h2 : Marks l t cl sq b1 b2) where
-            abbrev v : Replica
-            v = with-lasts (set (u .lasts) cl sq) (with-timestamp t (installed t ws u))
+            pub left : Both l b3 c3 (with-pending js v)
+            left = h3 .both found-paired
 
-            pub stored : Holds l b2 v
-            stored = h2 .holds found-marking
+            -- the objects now
+            abbrev objs : List (List Version)
+            objs = model.install t (opens (u .readers)) ws (u .objects)
 
-            pub same-places : HoldsBodies l c v
-            same-places = same-bodies l s c u (p .bodies) v (stored .fits) refl
+            objects-same : length objs ≡ length (u .objects)
+            objects-same = length-install t (opens (u .readers)) ws (u .objects)
 
-            abbrev pub found-paired : Paired l b2 c
-            found-paired = record { replica = v; holds = stored; bodies = same-places }
+            left-runs : AllShaped (length objs) js
+            left-runs =
+                subst (λ (k : ℕ). AllShaped k js) (sym objects-same)
+                (all-keep (λ (x : Pending). Shaped (length (u .objects)) (program x) (x .run)) (stays cl sq) (u .pending) (pending-part l u (p .shape) .runs))
 
-            -- those that leave have left
-            module _ {b3 c3 : List ℕ} (h3 : Left l cl sq b2 c b3 c3) where
-              abbrev js : List Pending
-              js = keep (stays cl sq) (u .pending)
+            left-versions : All (λ (vs : List Version). 0 < length vs) objs
+            left-versions =
+                subst (λ (x : ℕ). All (λ (vs : List Version). 0 < length vs) (model.install x (opens (u .readers)) ws (u .objects))) (sym next)
+                (shaped-some (suc (u .timestamp)) (opens (u .readers)) (model.install (suc (u .timestamp)) (opens (u .readers)) ws (u .objects))
+                (install-versions (u .timestamp) (opens (u .readers)) ws (u .objects) (p .shape .versions)))
 
-              pub left : Both l b3 c3 (with-pending js v)
-              left = h3 .both found-paired
+            left-placed : Placed l (length objs) ps
+            left-placed = subst (λ (n : ℕ). Placed l n ps) (sym objects-same) (placed s m p e)
 
-              objects-same : length (model.install t (opens (u .readers)) ws (u .objects)) ≡ length (u .objects)
-              objects-same = length-install t (opens (u .readers)) ws (u .objects)
+            left-few : length objs ≤ 128
+            left-few = omega (arith, objects-same, p .holds .fits .objects .0, m .objects)
 
-              left-runs : AllShaped (length (model.install t (opens (u .readers)) ws (u .objects))) js
-              left-runs = subst (λ (k : ℕ). AllShaped k js) (sym objects-same) (all-keep (λ (x : Pending). Shaped (length (u .objects)) (program x) (x .run)) (stays cl sq) (u .pending) runs)
+            abbrev walking : Walking l b3 ps
+            walking =
+                record { replica = with-pending js v; holds = left .holds; runs = left-runs; versions = left-versions; placed = left-placed; few = left-few }
 
-              left-versions : All (λ (vs : List Version). 0 < length vs) (model.install t (opens (u .readers)) ws (u .objects))
-              left-versions =
-                  subst (λ (x : ℕ). All (λ (vs : List Version). 0 < length vs) (model.install x (opens (u .readers)) ws (u .objects))) (sym next)
-                  (shaped-some (suc (u .timestamp)) (opens (u .readers)) (model.install (suc (u .timestamp)) (opens (u .readers)) ws (u .objects)) (install-versions (u .timestamp) (opens (u .readers)) ws (u .objects) (p .shape .versions)))
+            pub found-walking : Walking l b3 ps
+            found-walking = walking
 
-              left-placed : Placed l (length (model.install t (opens (u .readers)) ws (u .objects))) ps
-              left-placed = subst (λ (n : ℕ). Placed l n ps) (sym objects-same) placed
+            -- the walk
+            module _ {b4 : List ℕ} (h4 : Walks l ps b3 b4) where
+              abbrev final : ℕ → List Entry → Replica
+              final t ws =
+                  with-pending (model.walk (table (model.install t (opens (u .readers)) ws (u .objects)) (u .bounds)) js) (with-lasts (set (u .lasts) cl sq) (with-timestamp t (installed t ws u)))
 
-              left-few : length (model.install t (opens (u .readers)) ws (u .objects)) ≤ 128
-              left-few = omega (arith, objects-same, p .holds .fits .objects .0, m .objects)
+              walked : Holds l b4 (final t ws)
+              walked = h4 .holds walking
 
-              pub found-walking : Walking l b3 ps
-              found-walking = record { replica = with-pending js v; holds = left .holds; runs = left-runs; versions = left-versions; placed = left-placed; few = left-few }
-
-              -- the walk
-              module _ {b4 : List ℕ} (h4 : Walks l ps b3 b4) where
-                abbrev final : ℕ → List Entry → Replica
-                final t ws = with-pending (model.walk (table (model.install t (opens (u .readers)) ws (u .objects)) (u .bounds)) js) (with-lasts (set (u .lasts) cl sq) (with-timestamp t (installed t ws u)))
-
-                walked : Holds l b4 (final t ws)
-                walked = h4 .holds (record { replica = with-pending js v; holds = left .holds; runs = left-runs; versions = left-versions; placed = left-placed; few = left-few })
-
-                pub found-done : {r : Commit} → r .outcome ≡ d .outcome → r .validated ≡ d .validated → r .timestamp .0 ≡ t → r .stored ≡ d .stored → r .operations ≡ d .operations → Answered l b4 c3 (commit-at u cl sq i) r
-                unfolding commit
-                found-done {r} eo ek er es ew =
-                    let count : r .stored ≡ length (result T j .writes) = es ∙ sym (length-entries (d .stored) wo wv) ∙ ap length (decided .writes) in
-                    let k = eo ∙ decided .outcome in
-                    let y = ek ∙ decided .validated in
-                    let q = er ∙ next in
-                    let w = ew ∙ decided .operations in
-                    record {
-                      answer = λ x. committed-answer (k x) (y x) (q x) (count x) (w x);
-                      areas = subst (Both l b4 c3) (ap₂ final next (decided .writes))
-                          (record { holds = walked; bodies = same-bodies l s c3 (with-pending js v) (left .bodies) (final t ws) (walked .fits) (bodies-walk (table (model.install t (opens (u .readers)) ws (u .objects)) (u .bounds)) js) });
-                    }
-                  where
-                    bodies-walk : (S : Table) (js : List Pending) → map body-of (model.walk S js) ≡ map body-of js
-                    bodies-walk S js =
-                        sym (map-map (λ (x : Transaction). x .bytes) (λ (x : Pending). x .sent) (model.walk S js))
-                        ∙ ap (map (λ (x : Transaction). x .bytes)) (walk-sents S js)
-                        ∙ map-map (λ (x : Transaction). x .bytes) (λ (x : Pending). x .sent) js
+              pub found-done : {r : Commit} → r .outcome ≡ d .outcome → r .validated ≡ d .validated → r .timestamp .0 ≡ t → r .stored ≡ d .stored → r .operations ≡ d .operations → Answered l b4 c3 (commit-at u cl sq i) r
+              unfolding commit
+              found-done {r} eo ek er es ew =
+                  let f = decided s m p e g in
+                  let k = eo ∙ f .outcome in
+                  let y = ek ∙ f .validated in
+                  let q = er ∙ next in
+                  let n = es ∙ stored-count s m p e g in
+                  let w = ew ∙ f .operations in
+                  record {
+                    answer = λ x. committed-answer (k x) (y x) (q x) (n x) (w x);
+                    areas = subst (Both l b4 c3) (ap₂ final next (f .writes))
+                        (record { holds = walked; bodies = same-bodies l s c3 (with-pending js v) (left .bodies) (final t ws) (walked .fits) (bodies-walk (table objs (u .bounds)) js) });
+                  }
+                where
+                  bodies-walk : (S : Table) (js : List Pending) → map body-of (model.walk S js) ≡ map body-of js
+                  bodies-walk S js =
+                      sym (map-map (λ (x : Transaction). x .bytes) (λ (x : Pending). x .sent) (model.walk S js))
+                      ∙ ap (map (λ (x : Transaction). x .bytes)) (walk-sents S js)
+                      ∙ map-map (λ (x : Transaction). x .bytes) (λ (x : Pending). x .sent) js

@@ -1,4 +1,3 @@
--- Decide: the early results or a new execution. Commit: the commit on both areas, step by step. Deliver: the refusals, and the whole call.
-pub mod Decide
+-- Commit: the commit on both areas, step by step. Deliver: the whole call, from what its tests say.
 pub mod Commit
 pub mod Deliver

@@ -12,6 +12,7 @@ pub mod Tests
 pub mod VersionLaws
 pub mod EarlyResults
 pub mod Simulation
+pub mod PreviewLaws
 pub mod Refusals
 pub mod Queries
 pub mod Invariant

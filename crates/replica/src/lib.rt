@@ -4,6 +4,7 @@ use model::Delivery;
 use model::Execution;
 use model::Finding;
 use model::Limits;
+use model::Preview;
 use model::Reading;
 use model::Reply;
 ghost use mathlib.Core.Path.{_≡_};
@@ -13,6 +14,7 @@ ghost use Rattle.model.specs.Calls.{find as find-call, execute as execute-call,
 ghost use Rattle.model.specs.Limits.{standard};
 ghost use Rattle.model.specs.Answers.{reply, execution, delivery, reading, finding};
 ghost use Rattle.queue.specs.Shown.{Shown};
+ghost use Rattle.dry_run.specs.Previews.{Previews};
 ghost use Rattle.layout.specs.Contract.{Met};
 
 // The limits of the standard kind ("cabinet unit").
@@ -130,4 +132,12 @@ pub fn deliver_final(records: &mut [u8], bodies: &mut [u8], client: u32, sequenc
 {
     let shaped = standard_shape(records, bodies);
     replica_calls::deliver_final(records, bodies, STANDARD, shaped, client, sequence)
+}
+
+// Dry run: what the final delivery of a pending key would come to now, and the value that each object would then hold.
+pub fn dry_run(records: &[u8], bodies: &[u8], client: u32, sequence: u32) -> Preview
+    ensures { λ r. ⌜ Previews standard client sequence (now (records .entry), now (bodies .entry)) r ⌝ }
+{
+    let shaped = standard_shape(records, bodies);
+    replica_calls::dry_run(records, bodies, STANDARD, shaped, client, sequence)
 }

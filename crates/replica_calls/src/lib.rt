@@ -4,6 +4,7 @@ use model::Delivery;
 use model::Execution;
 use model::Finding;
 use model::Limits;
+use model::Preview;
 use model::Reading;
 use model::Reply;
 ghost use mathlib.Core.Path.{_≡_};
@@ -13,6 +14,7 @@ ghost use Rattle.model.specs.Answers.{reply, execution, delivery, reading, find
 ghost use Rattle.layout.specs.Fit.{fit};
 ghost use Rattle.layout.specs.Contract.{Supported, Met};
 ghost use Rattle.queue.specs.Shown.{Shown};
+ghost use Rattle.dry_run.specs.Previews.{Previews};
 
 // Open: its lengths, its counts and its start values are judged, in this order, before anything is written.
 pub fn open(
@@ -195,5 +197,25 @@ pub fn deliver_final(
         final_delivery::deliver_final(records, bodies, l, client, sequence)
     } else {
         Delivery::Refused(1)
+    }
+}
+
+// The dry run.
+pub fn dry_run(
+    records: &[u8],
+    bodies: &[u8],
+    l: Limits,
+    shaped: bool,
+    client: u32,
+    sequence: u32,
+) -> Preview
+    requires { ⌜ Supported l ⌝ }
+    requires { ⌜ shaped ≡ fit l (now records, now bodies) ⌝ }
+    ensures { λ r. ⌜ Previews l client sequence (now (records .entry), now (bodies .entry)) r ⌝ }
+{
+    if shaped {
+        dry_run::dry_run(records, bodies, l, client, sequence)
+    } else {
+        dry_run::refused(1)
     }
 }

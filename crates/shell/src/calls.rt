@@ -1,4 +1,4 @@
-// The nine calls: a command's arguments, the call, and its answer's text.
+// The ten calls: a command's arguments, the call, and its answer's text.
 use crate::commands::Answer;
 use console::arguments;
 use console::arguments::Pair;
@@ -10,6 +10,7 @@ use console::faults::Name;
 use console::output;
 use model::Delivery;
 use model::Finding;
+use model::Preview;
 use model::Reply;
 use text::buffer;
 use text::hexadecimal;
@@ -245,6 +246,17 @@ pub fn show(records: &[u8], bodies: &[u8], line: &[u8], at: usize, out: &mut [u8
         Pair::Are(client, sequence, _) => {
             let body = replica::show_body(records, bodies, client, sequence);
             Answer::Line(hexadecimal::put(out, 0, body))
+        }
+        Pair::Wrong(fault) => Answer::Wrong(fault),
+    }
+}
+
+// dry CLIENT SEQUENCE
+pub fn dry(records: &[u8], bodies: &[u8], line: &[u8], at: usize, out: &mut [u8]) -> Answer {
+    match arguments::last_two_numbers(line, at, Name::Client, Name::Sequence) {
+        Pair::Are(client, sequence, _) => {
+            let r: Preview = replica::dry_run(records, bodies, client, sequence);
+            Answer::Line(output::put_preview(out, r))
         }
         Pair::Wrong(fault) => Answer::Wrong(fault),
     }

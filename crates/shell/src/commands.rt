@@ -29,6 +29,7 @@ pub enum Call {
     Close,
     Find,
     Show,
+    Dry,
     Dump,
 }
 
@@ -42,7 +43,7 @@ pub enum Command {
 // The command that a line's first word names.
 fn named(word: &[u8]) -> Command {
     match words::place(
-        b"open early work final reader read close find show dump lend poke",
+        b"open early work final reader read close find show dry dump lend poke",
         word,
     ) {
         0 => Command::OnLent(Call::Open),
@@ -54,9 +55,10 @@ fn named(word: &[u8]) -> Command {
         6 => Command::OnLent(Call::Close),
         7 => Command::OnLent(Call::Find),
         8 => Command::OnLent(Call::Show),
-        9 => Command::OnLent(Call::Dump),
-        10 => Command::Lend,
-        11 => Command::Poke,
+        9 => Command::OnLent(Call::Dry),
+        10 => Command::OnLent(Call::Dump),
+        11 => Command::Lend,
+        12 => Command::Poke,
         _ => Command::Unknown,
     }
 }
@@ -87,6 +89,7 @@ fn dispatch(
         Call::Close => calls::close(records, bodies, line, at, out),
         Call::Find => calls::find(records, bodies, line, at, out),
         Call::Show => calls::show(records, bodies, line, at, out),
+        Call::Dry => calls::dry(records, bodies, line, at, out),
         Call::Dump => areas::dump(records, bodies, line, at, out),
     }
 }

@@ -2,7 +2,9 @@
 use mathlib.Core.Path.{refl}
 use native.Mathlib.Omega.{arith}
 use borrow.Author.Needs.{needs}
-use Rattle.final_delivery.specs.Commit.{found-laid, found-before, found-few, found-deciding, outcome-small, stored-few, operations-few, found-publishing, found-marking, found-paired, found-walking, found-done}
+use Rattle.final_admission.specs.NextTimestamp.{timestamp-left}
+use Rattle.final_decision.specs.Found.{found-laid, found-deciding, outcome-small, stored-few, operations-few}
+use Rattle.final_delivery.specs.Commit.{found-few, found-publishing, found-marking, found-paired, found-walking, found-done}
 use Rattle.final_delivery.proofs.commit_at.Statement.{statement}
 use Rattle.final_delivery.proofs.commit_at.Tie as tie
 
@@ -37,16 +39,16 @@ decision-of k = decided (timed (published (marked (left k))))
 committed-places-requires : tie.Need-committed-places-requires
 committed-places-requires c κs =
     let s = c .before .before .before .before in
-    (s .pre .0 .0, (found-laid (s .pre .0 .0) (s .pre .0 .1) (s .pre .1), refl))
+    (s .pre .0 .0, (found-laid (s .pre .0 .0) (s .pre .0 .1) (s .pre .1 .0), refl))
 
 decide-requires : tie.Need-decide-requires
 decide-requires c κs =
     let places = c .before .before .before .before .before in
     let s = start places in
-    (s .pre .0, (found-deciding (s .pre .0 .0) (s .pre .0 .1) (s .pre .1) (places .committed-places .ensures), record { objects = refl; values = refl }))
+    (s .pre .0, (found-deciding (s .pre .0 .0) (s .pre .0 .1) (s .pre .1 .0) (places .committed-places .ensures), record { objects = refl; values = refl }))
 
 next-timestamp-requires : tie.Need-next-timestamp-requires
-next-timestamp-requires c κs = let s = c .before .before .before .before .before .before .before .before .before .before .before .before in found-before (s .pre .0 .0) (s .pre .0 .1) (s .pre .1)
+next-timestamp-requires c κs = let s = c .before .before .before .before .before .before .before .before .before .before .before .before in timestamp-left (s .pre .0 .0) (s .pre .1 .0 .holds) (s .pre .1 .0 .before)
 
 publish-requires : tie.Need-publish-requires
 publish-requires c κs =
@@ -54,8 +56,8 @@ publish-requires c κs =
     let decision = decided time in
     let places = placed decision in
     let s = start places in
-    let few = stored-few (s .pre .0 .0) (s .pre .0 .1) (s .pre .1) (places .committed-places .ensures) (decision .decide .ensures) in
-    ((found-few (s .pre .0 .0) (s .pre .0 .1) (s .pre .1), few), found-publishing (s .pre .0 .0) (s .pre .0 .1) (s .pre .1) (places .committed-places .ensures) (decision .decide .ensures) (time .next-timestamp .ensures))
+    let few = stored-few (s .pre .0 .0) (s .pre .0 .1) (s .pre .1 .0) (places .committed-places .ensures) (decision .decide .ensures) in
+    ((found-few (s .pre .0 .0) (s .pre .0 .1) (s .pre .1 .0) (s .pre .1 .1), few), found-publishing (s .pre .0 .0) (s .pre .0 .1) (s .pre .1 .0) (s .pre .1 .1) (places .committed-places .ensures) (decision .decide .ensures) (time .next-timestamp .ensures))
 
 mark-requires : tie.Need-mark-requires
 mark-requires c κs =
@@ -64,7 +66,7 @@ mark-requires c κs =
     let decision = decided time in
     let places = placed decision in
     let s = start places in
-    (s .pre .0 .0, found-marking (s .pre .0 .0) (s .pre .0 .1) (s .pre .1) (places .committed-places .ensures) (decision .decide .ensures) (time .next-timestamp .ensures) (writes .publish .ensures))
+    (s .pre .0 .0, found-marking (s .pre .0 .0) (s .pre .0 .1) (s .pre .1 .0) (s .pre .1 .1) (places .committed-places .ensures) (decision .decide .ensures) (time .next-timestamp .ensures) (writes .publish .ensures))
 
 leave-requires : tie.Need-leave-requires
 leave-requires c κs =
@@ -74,7 +76,7 @@ leave-requires c κs =
     let decision = decided time in
     let places = placed decision in
     let s = start places in
-    (s .pre .0 .0, found-paired (s .pre .0 .0) (s .pre .0 .1) (s .pre .1) (places .committed-places .ensures) (decision .decide .ensures) (time .next-timestamp .ensures) (writes .publish .ensures) (numbers .mark .ensures))
+    (s .pre .0 .0, found-paired (s .pre .0 .0) (s .pre .0 .1) (s .pre .1 .0) (s .pre .1 .1) (places .committed-places .ensures) (decision .decide .ensures) (time .next-timestamp .ensures) (writes .publish .ensures) (numbers .mark .ensures))
 
 walk-requires : tie.Need-walk-requires
 walk-requires c κs =
@@ -85,28 +87,29 @@ walk-requires c κs =
     let decision = decided time in
     let places = placed decision in
     let s = start places in
-    (s .pre .0 .0, found-walking (s .pre .0 .0) (s .pre .0 .1) (s .pre .1) (places .committed-places .ensures) (decision .decide .ensures) (time .next-timestamp .ensures) (writes .publish .ensures) (numbers .mark .ensures) (queue .leave .ensures))
+    let walking = found-walking (s .pre .0 .0) (s .pre .0 .1) (s .pre .1 .0) (s .pre .1 .1) (places .committed-places .ensures) (decision .decide .ensures) (time .next-timestamp .ensures) (writes .publish .ensures) (numbers .mark .ensures) in
+    (s .pre .0 .0, walking (queue .leave .ensures))
 
 cast-t39 : tie.Need-cast-t39
 cast-t39 c =
     let decision = decision-of (c .before .before .before) in
     let places = placed decision in
     let s = start places in
-    omega (arith, outcome-small (s .pre .0 .0) (s .pre .0 .1) (s .pre .1) (places .committed-places .ensures) (decision .decide .ensures))
+    omega (arith, outcome-small (s .pre .0 .0) (s .pre .0 .1) (s .pre .1 .0) (places .committed-places .ensures) (decision .decide .ensures))
 
 cast-t40 : tie.Need-cast-t40
 cast-t40 c =
     let decision = decision-of (c .before .before .before) in
     let places = placed decision in
     let s = start places in
-    omega (arith, stored-few (s .pre .0 .0) (s .pre .0 .1) (s .pre .1) (places .committed-places .ensures) (decision .decide .ensures))
+    omega (arith, stored-few (s .pre .0 .0) (s .pre .0 .1) (s .pre .1 .0) (places .committed-places .ensures) (decision .decide .ensures))
 
 cast-t41 : tie.Need-cast-t41
 cast-t41 c =
     let decision = decision-of (c .before .before .before .before) in
     let places = placed decision in
     let s = start places in
-    omega (arith, operations-few (s .pre .0 .0) (s .pre .0 .1) (s .pre .1) (places .committed-places .ensures) (decision .decide .ensures))
+    omega (arith, operations-few (s .pre .0 .0) (s .pre .0 .1) (s .pre .1 .0) (places .committed-places .ensures) (decision .decide .ensures))
 
 returns : tie.Need-returns
 returns c =
@@ -119,7 +122,7 @@ returns c =
     let places = placed decision in
     let s = start places in
     record {
-      answered = λ p. found-done (s .pre .0 .0) (s .pre .0 .1) p (places .committed-places .ensures) (decision .decide .ensures) (time .next-timestamp .ensures) (writes .publish .ensures) (numbers .mark .ensures) (queue .leave .ensures)
+      answered = λ p known. found-done (s .pre .0 .0) (s .pre .0 .1) p known (places .committed-places .ensures) (decision .decide .ensures) (time .next-timestamp .ensures) (writes .publish .ensures) (numbers .mark .ensures) (queue .leave .ensures)
           (walk .walk .ensures) refl refl refl refl refl;
     }
 

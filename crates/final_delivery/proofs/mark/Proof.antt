@@ -24,7 +24,9 @@ put-requires-2 c κs = let s = c .before .before .before .before .before .before
 returns : tie.Need-returns
 returns c =
     let at-last = c .before .before .before in
-    marked (c .before .before .before .before .before .before .before .before .before .before .before .pre .0) (omega arith) (omega arith) (c .before .before .before .before .before .before .before .put .ensures) (at-last .last-at .ensures .exact) (c .before .before .put2 .ensures)
+    let timed = at-last .before .before .before .before in
+    let s = timed .before .before .before .before in
+    marked (s .pre .0) (omega arith) (omega arith) (timed .put .ensures) (at-last .last-at .ensures .exact) (c .before .before .put2 .ensures)
 
 cast-put : tie.Need-cast-put
 cast-put c = search needs

@@ -45,13 +45,18 @@ use Rattle.committed_table.specs.Committed as committed
 use Rattle.final_commit.specs.Positions.{at, fits-at}
 use Rattle.final_walk.specs.Places.{table-in, Reaching, Placed, matches-same, placed-inside, placed-table}
 use Rattle.final_walk.specs.Recorded.{entry-from, reads-from, writes-from, Lying, row-lying, row-few, row-reads-from, row-writes-from, row-counter, row-outcome}
-use Rattle.final_delivery.specs.declared.Decision.{Decision}
+use Rattle.final_decision.specs.declared.Decision.{Decision}
 
 -- limits for which the local arrays of a commit have room: the committed state, a transaction's sets, and the readers' cells
 pub record Local (l : Limits) : Type 0 where
   pub objects : l .objects ≤ 128
   pub operations : l .operations ≤ capacity
   pub readers : l .readers ≤ 16
+
+-- the committed state of a record area is where it is looked for
+pub holds-laid : {l : Limits} {b : List ℕ} {u : Replica} → Sane l → Local l → Holds l b u → committed.Laid l b
+holds-laid {l} {b} {u} s m h =
+    record { whole = holds-long l s b u h; few = omega (arith, get-size l s b u h, h .fits .objects .0); room = m .objects }
 
 -- ---- the decision
 
@@ -115,8 +120,7 @@ pub record Reruns (l : Limits) (b body : List ℕ) (r : Executed) (wo : List ℕ
 
 module _ {l : Limits} {b body : List ℕ} (s : Sane l) (m : Local l) (p : Rerunning l b body) where
   pub rerun-laid : committed.Laid l b
-  rerun-laid =
-      record { whole = holds-long l s b (p .replica) (p .holds); few = omega (arith, get-size l s b (p .replica) (p .holds), p .holds .fits .objects .0); room = m .objects }
+  rerun-laid = holds-laid s m (p .holds)
 
   pub rerun-sorted : committed.BlocksSorted l b
   rerun-sorted = committed.blocks-sorted l s b (p .replica) (p .holds) (p .versions)
@@ -158,6 +162,19 @@ shaped-some t rs objs h = all-implies (VersionsShape t rs) (λ (vs : List Versio
 pub some-version : {l : Limits} (u : Replica) → Shape l u → All (λ (vs : List Version). 0 < length vs) (u .objects)
 some-version u h = shaped-some (u .timestamp) (opens (u .readers)) (u .objects) (h .versions)
 
+-- transaction i of a replica in shape: its body, and its run on record
+module _ {l : Limits} {i : ℕ} (u : Replica) (h : Shape l u) (there : i < length (u .pending)) where
+  pub well-formed-body : is-well-formed (l .operations) (length (u .objects)) (body-of (at (u .pending) i)) ≡ true
+  well-formed-body =
+      fits-at (λ (x : Pending). x .sent) (λ (x : Transaction). is-well-formed (l .operations) (length (u .objects)) (x .bytes) ≡ true) (u .pending) i there (h .bodies)
+
+  pub body-formed : Formed (l .operations) (length (u .objects)) (body-of (at (u .pending) i))
+  body-formed = formed (l .operations) (length (u .objects)) (body-of (at (u .pending) i)) well-formed-body
+
+  pub run-shaped : Shaped (length (u .objects)) (program (at (u .pending) i)) (at (u .pending) i .run)
+  run-shaped =
+      all-in (λ (x : Pending). Shaped (length (u .objects)) (program x) (x .run)) (u .pending) i (pending-of none) (pending-part l u h .runs) there
+
 module _ {l : Limits} {b c : List ℕ} {i : ℕ} {ps : List ℕ} (s : Sane l) (m : Local l) (p : Deciding l b c i ps) where
   abbrev u : Replica
   u = p .replica
@@ -171,11 +188,8 @@ module _ {l : Limits} {b c : List ℕ} {i : ℕ} {ps : List ℕ} (s : Sane l) (m
   pub decide-there : i < l .pending
   decide-there = omega (arith, p .there, few-pending l u (p .holds .fits))
 
-  body-formed : is-well-formed (l .operations) (length (u .objects)) (body-of j) ≡ true
-  body-formed = fits-at (λ (x : Pending). x .sent) (λ (x : Transaction). is-well-formed (l .operations) (length (u .objects)) (x .bytes) ≡ true) (u .pending) i (p .there) (p .shape .bodies)
-
   shaped : Shaped (length (u .objects)) (program j) (j .run)
-  shaped = all-in (λ (x : Pending). Shaped (length (u .objects)) (program x) (x .run)) (u .pending) i (pending-of none) (pending-part l u (p .shape) .runs) (p .there)
+  shaped = run-shaped u (p .shape) (p .there)
 
   -- its body: the part of w bytes of c from byte x on; n is its first byte
   module _ {x : ℕ} (ex : x ≡ body-at l i) where
@@ -187,7 +201,7 @@ module _ {l : Limits} {b c : List ℕ} {i : ℕ} {ps : List ℕ} (s : Sane l) (m
       is-size = en ∙ ap (λ (k : ℕ). getD c k 0) ex ∙ body-size l s c u (p .bodies) i (p .there) (pending-of none)
 
       form : Formed (l .operations) (length (u .objects)) (body-of j)
-      form = formed (l .operations) (length (u .objects)) (body-of j) body-formed
+      form = body-formed u (p .shape) (p .there)
 
       pub body-few : n ≤ capacity
       body-few = omega (arith, is-size, form .most, m .operations)

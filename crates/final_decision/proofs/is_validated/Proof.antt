@@ -1,4 +1,4 @@
--- `final_delivery::is_validated` meets its contract: both tests, the second where the first holds.
+-- `final_decision::is_validated` meets its contract: both tests, the second where the first holds.
 use mathlib.Core.Path.{sym, ap, _∙_}
 use mathlib.Core.Bool.{Bool, _&&_}
 use borrow.Author.Needs.{needs}
@@ -6,8 +6,8 @@ use Rattle.cells.specs.Cells.{cells}
 use Rattle.execution.specs.Run.{matches}
 use Rattle.final_walk.specs.Places.{table-in}
 use Rattle.final_walk.specs.Recorded.{reads-from}
-use Rattle.final_delivery.proofs.is_validated.Statement.{statement}
-use Rattle.final_delivery.proofs.is_validated.Tie as tie
+use Rattle.final_decision.proofs.is_validated.Statement.{statement}
+use Rattle.final_decision.proofs.is_validated.Tie as tie
 
 -- whether the values read are the committed ones
 abbrev agree : tie.Start → Bool

@@ -1,8 +1,8 @@
--- `final_delivery::run_again` meets its contract: the values of the committed state are gathered, and the body is run on them, stamps and bounds being lent.
+-- `final_decision::run_again` meets its contract: the values of the committed state are gathered, and the body is run on them, stamps and bounds being lent.
 use mathlib.Core.Path.{refl}
-use Rattle.final_delivery.specs.Decide.{rerun-laid, rerun-sorted, values-few, values-lent, values-formed, bounds-there, values-ran}
-use Rattle.final_delivery.proofs.run_again.Statement.{statement}
-use Rattle.final_delivery.proofs.run_again.Tie as tie
+use Rattle.final_decision.specs.Decide.{rerun-laid, rerun-sorted, values-few, values-lent, values-formed, bounds-there, values-ran}
+use Rattle.final_decision.proofs.run_again.Statement.{statement}
+use Rattle.final_decision.proofs.run_again.Tie as tie
 
 -- ---- waypoints: the values are gathered, and it is known where stamps and bounds stand
 

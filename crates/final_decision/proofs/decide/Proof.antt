@@ -1,12 +1,12 @@
--- `final_delivery::decide` meets its contract: where the early results are validated their writes are loaded, else the body is run.
+-- `final_decision::decide` meets its contract: where the early results are validated their writes are loaded, else the body is run.
 use mathlib.Core.Path.{_≡_, refl}
 use native.Mathlib.Omega.{arith}
 use borrow.Author.Needs.{needs}
 use Rattle.layout.specs.Offsets.{row-at, body-at}
 use Rattle.layout.specs.Holds.{holds-long}
-use Rattle.final_delivery.specs.Decide.{decided-as, decide-there, body-begins, body-few, body-ends, lent-some, rerunning, decide-lying, decide-reads, writes-few, writes-inside, writes-loaded, decided-validated, decided-again}
-use Rattle.final_delivery.proofs.decide.Statement.{statement}
-use Rattle.final_delivery.proofs.decide.Tie as tie
+use Rattle.final_decision.specs.Decide.{decided-as, decide-there, body-begins, body-few, body-ends, lent-some, rerunning, decide-lying, decide-reads, writes-few, writes-inside, writes-loaded, decided-validated, decided-again}
+use Rattle.final_decision.proofs.decide.Statement.{statement}
+use Rattle.final_decision.proofs.decide.Tie as tie
 
 -- ---- waypoints: the body, and the row's counts
 
@@ -100,14 +100,16 @@ load-entries-requires c κs =
 
 returns : tie.Need-returns
 returns c =
-    let k = c .before .before .before .before .before .before .before in
+    let kept = c .before .before .before .before .before in
+    let k = kept .before .before in
     let s = start (counted k) in
     let e = k .counts-at .ensures in
-    let seen = c .before .before .before .before .before .before .is-validated .ensures in
+    let seen = kept .before .is-validated .ensures in
     let loaded = c .before .load-entries .ensures .0 in
     record {
       decided = λ p. decided-as (c .decided .ensures)
-          (decided-validated (s .pre .0 .0) (s .pre .0 .1) p (row k) e (first (counted k)) refl (counted k .body-length .ensures) seen (c .before .before .before .before .before .if1 .taken) (writes-loaded (s .pre .0 .0) (s .pre .0 .1) p (row k) e refl _ _ loaded));
+          (decided-validated (s .pre .0 .0) (s .pre .0 .1) p (row k) e (first (counted k)) refl (counted k .body-length .ensures) seen (kept .if1 .taken)
+          (writes-loaded (s .pre .0 .0) (s .pre .0 .1) p (row k) e refl _ _ loaded));
     }
 
 -- ---- it is run again

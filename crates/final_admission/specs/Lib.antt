@@ -1,0 +1,3 @@
+-- Admission: the tests of a final delivery. NextTimestamp: the timestamp that it takes.
+pub mod Admission
+pub mod NextTimestamp
