@@ -29,7 +29,7 @@
 #include <stddef.h>
 #include <stdint.h>
 
-#define JOBSTORE_VERSION "0.5.0"
+#define JOBSTORE_VERSION "0.6.0"
 
 #ifdef __cplusplus
 extern "C" {
@@ -182,6 +182,16 @@ struct jobstore_part {
     uint32_t length;
 };
 
+/* Dry run. It has this many places for values, however many objects there are. */
+#define JOBSTORE_PREVIEW_PLACES 128
+struct jobstore_preview {
+    uint32_t number;                          /* 0, or the refusal */
+    uint32_t outcome;                         /* enum jobstore_outcome */
+    uint32_t kept;                            /* 1: the early results would be kept; 0: the job would be run again */
+    uint32_t stamp;                           /* the commit stamp that the job would get */
+    int64_t values[JOBSTORE_PREVIEW_PLACES];  /* what each object would hold; 0 past the last object */
+};
+
 /* The length of the record area in bytes, for arrays and as the library has it. */
 #define JOBSTORE_RECORD_LENGTH 30160
 uint32_t jobstore_record_length(void);
@@ -242,6 +252,12 @@ struct jobstore_found jobstore_find(const uint8_t *record, size_t record_length,
  * Returns where in the body area the body stands: `length` bytes from `bodies + start`; 0 and 0 exactly when Find refuses. */
 struct jobstore_part jobstore_show_body(const uint8_t *record, size_t record_length, const uint8_t *bodies, size_t bodies_length,
                                         uint32_t client, uint32_t sequence);
+
+/* Dry run of a pending key: what its final delivery would do if it came now, as if it were done on a copy of both areas.
+ * Changes nothing.
+ * Returns outcome, kept, stamp and every object's value after it, or refusal 1, 3, 4, 8, 9, as the final delivery would. */
+struct jobstore_preview jobstore_dry_run(const uint8_t *record, size_t record_length, const uint8_t *bodies, size_t bodies_length,
+                                         uint32_t client, uint32_t sequence);
 
 #ifdef __cplusplus
 }

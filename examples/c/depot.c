@@ -1,23 +1,14 @@
 /* "A small depot" from C: a replica in two arrays, three jobs delivered early, worked on, and committed in another order.
  * Prints each answer; the exit status is 0 exactly when all are right. */
-#include <inttypes.h>
 #include <stdio.h>
 #include <string.h>
 
 #include <jobstore.h>
 
+#include "say.h"
+
 static uint8_t record[JOBSTORE_RECORD_LENGTH];
 static uint8_t bodies[JOBSTORE_BODIES_LENGTH];
-static int wrong;
-
-static void say(const char *what, int64_t is, int64_t due)
-{
-    printf("%s: %" PRId64 "\n", what, is);
-    if (is != due) {
-        printf("  should be %" PRId64 "\n", due);
-        wrong = 1;
-    }
-}
 
 static uint32_t early(uint32_t client, uint32_t sequence, const struct jobstore_operation *operations, size_t m)
 {

@@ -6,19 +6,11 @@
 
 #include <jobstore.h>
 
+#include "say.h"
+
 static uint8_t record[JOBSTORE_RECORD_LENGTH];
 static uint8_t bodies[JOBSTORE_BODIES_LENGTH];
 static const uint32_t start_stamp = 100;
-static int wrong;
-
-static void say(const char *what, int64_t is, int64_t due)
-{
-    printf("%s: %" PRId64 "\n", what, is);
-    if (is != due) {
-        printf("  should be %" PRId64 "\n", due);
-        wrong = 1;
-    }
-}
 
 static uint32_t open_tank(int64_t litres, int64_t lower, int64_t upper)
 {

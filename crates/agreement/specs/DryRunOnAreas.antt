@@ -1,21 +1,28 @@
 -- S-4 of document 02, for dispatch, on the two lent areas: any areas, early results that no calls led to included. Assumes nothing.
 use mathlib.Core.Path.{_≡_, refl, sym, ap, _∙_}
-use mathlib.Core.Bool.{Bool, true, false}
-use mathlib.Core.List.{List, map}
+use mathlib.Core.Bool.{Bool, true, false, true≢false}
+use mathlib.Core.List.{List, _∷_, map}
 use Prim.Native.Nat.{ℕ, zero, suc}
 use Rattle.cells.specs.Cells.{Below}
 use Rattle.model.specs.declared.Limits.{Limits}
 use Rattle.model.specs.Interface.{Query, Version, previewed, done, executed, committed, observed, Answer, refused, yielded}
-use Rattle.model.specs.Calls.{final, dry-run, causes, refusal}
-use Rattle.model.specs.Previews.{preview-of}
-use Rattle.model.specs.Replica.{Replica, newest, facts, delivered, perform, call}
+use Rattle.model.specs.Lists.{pick}
+use Rattle.model.specs.Calls.{Call, final, show-body, dry-run, seen, is-key, bytes-of, causes, refusal, judged}
+use Rattle.model.specs.Start.{Start, start-of}
+use Rattle.model.specs.DryRun.{preview-of}
+use Rattle.model.specs.Replica.{Replica, newest, facts, delivered, opened, perform, call, calls}
+use Rattle.model.specs.VersionLaws.{Dated}
 use Rattle.model.specs.ShapeCheck.{shaped}
 use Rattle.model.specs.ShapeKept.{call-shaped}
+use Rattle.model.specs.Replicas as states
+use Rattle.model.specs.Replicas.{reopening}
 use Rattle.layout.specs.Layout.{Areas, parse, print}
 use Rattle.layout.specs.Offsets.{Sane}
 use Rattle.layout.specs.Fit.{fit, fit-says, parse-print}
 use Rattle.layout.specs.Act.{act}
-use Rattle.layout.specs.Areas.{act-unfit, act-refused, act-accepted, act-query}
+use Rattle.layout.specs.Areas.{act-unfit, act-refused, act-accepted, act-query, act-print}
+use Rattle.agreement.specs.Trace.{Trace, areas, taken, bytes-in, history}
+use Rattle.agreement.specs.TraceLaws.{shows, dated, last, last-shaped, areas-print, history-same}
 
 -- What a dry run shows of a final delivery that answered this and left these newest versions: a refusal as it is. No final delivery answers anything else.
 abbrev pub previewed-as : Answer → List Version → Answer
@@ -65,3 +72,50 @@ module _ (l : Limits) (sane : Sane l) (c s : ℕ) (a : Areas) where
 
   pub dry-run-on-areas : Below 256 (a .0) → DoneAside l c s a
   dry-run-on-areas x = record { answer = aside; areas = act-query l sane (Query.dry-run c s) a x }
+
+-- ---- two replicas
+
+-- on states: equal starts with equal histories
+settled : (l m : Limits) (a b : Start) → Dated a → (cs ds : List Call) → reopening a ∷ states.history l (opened l a) cs ≡ reopening b ∷ states.history m (opened m b) ds
+    → (c s : ℕ) → refusal l (facts (calls l (opened l a) cs .1)) (dry-run c s) ≡ 0 → refusal m (facts (calls m (opened m b) ds .1)) (dry-run c s) ≡ 0
+    → bytes-of (pick (is-key c s) (facts (calls l (opened l a) cs .1) .queue)) ≡ bytes-of (pick (is-key c s) (facts (calls m (opened m b) ds .1) .queue))
+    → seen (call l (calls l (opened l a) cs .1) (dry-run c s) .0) ≡ seen (call m (calls m (opened m b) ds .1) (dry-run c s) .0)
+settled l m a b d cs ds e c s h k same =
+    let v : a ≡ b = cc in
+    let w : states.history l (opened l a) cs ≡ states.history m (opened m b) ds = cc in
+    rw (← v) (states.same-dry-runs l m a d cs ds (rw (← v) at w) c s h (rw (← v) at k) (rw (← v) at same))
+
+module _ {l : Limits} (x : Trace l) (c s : ℕ) where
+  -- on the areas after a trace
+  told : (k : Call) → act l k (areas x) .0 ≡ call l (last x) k .0
+  told k =
+      ap (λ (a : Areas). act l k a .0) (areas-print x)
+      ∙ ap (λ (r : Answer × Areas). r .0) (act-print l (x .sane) k (last x) (last-shaped x))
+
+  -- an answer that is none of the refusals tells that the call was taken
+  accepted : taken (act l (dry-run c s) (areas x) .0) ≡ true → refusal l (facts (last x)) (dry-run c s) ≡ 0
+  unfolding call
+  accepted e = by (refusal l (facts (last x)) (dry-run c s)) (ap taken (sym (told (dry-run c s))) ∙ e)
+    where
+      by : (k : ℕ) → taken (judged (last x) (perform l (last x) (dry-run c s)) k .0) ≡ true → k ≡ 0
+      by zero h = refl
+      by (suc k) h = absurd (true≢false (sym h))
+
+  -- the body that Show body shows is the one that is tried
+  body-shown : taken (act l (dry-run c s) (areas x) .0) ≡ true → bytes-in (act l (show-body c s) (areas x) .0) ≡ bytes-of (pick (is-key c s) (facts (last x) .queue))
+  unfolding refusal causes
+  body-shown e =
+      ap (λ (a : Areas). bytes-in (act l (show-body c s) a .0)) (areas-print x)
+      ∙ shows l (x .sane) (last x) (last-shaped x) c s (accepted e)
+
+-- Dispatch may ask any replica: after equal final deliveries a key that is pending with the same body gets the same answer, kept or run again aside.
+pub dry-runs-agree : {l m : Limits} (x : Trace l) (y : Trace m) → history x ≡ history y → (c s : ℕ)
+    → taken (act l (dry-run c s) (areas x) .0) ≡ true → taken (act m (dry-run c s) (areas y) .0) ≡ true
+    → act l (show-body c s) (areas x) .0 ≡ act m (show-body c s) (areas y) .0
+    → seen (act l (dry-run c s) (areas x) .0) ≡ seen (act m (dry-run c s) (areas y) .0)
+dry-runs-agree {l} {m} x y e c s h k same =
+    let bodies = sym (body-shown x c s h) ∙ ap bytes-in same ∙ body-shown y c s k in
+    let histories = sym (history-same x) ∙ e ∙ history-same y in
+    ap seen (told x c s (dry-run c s))
+    ∙ settled l m (start-of (x .opening)) (start-of (y .opening)) (dated x) (x .later) (y .later) histories c s (accepted x c s h) (accepted y c s k) bodies
+    ∙ sym (ap seen (told y c s (dry-run c s)))

@@ -40,7 +40,7 @@ found-too l u c s e =
 
 module _ (l : Limits) (s : Sane l) (u : Replica) (e : shaped l u ≡ true) where
   -- so Show body shows the body that is delivered
-  shows : (c q : ℕ) → refusal l (facts u) (update (final c q)) ≡ 0 → bytes-in (act l (query (show-body c q)) (print l u) .0) ≡ bytes-of (pick (is-key c q) (facts u .queue))
+  pub shows : (c q : ℕ) → refusal l (facts u) (update (final c q)) ≡ 0 → bytes-in (act l (query (show-body c q)) (print l u) .0) ≡ bytes-of (pick (is-key c q) (facts u .queue))
   unfolding call perform facts refusal causes
   shows c q k =
       ap (λ (r : Answer × Areas). bytes-in (r .0)) (act-print l s (query (show-body c q)) u e)

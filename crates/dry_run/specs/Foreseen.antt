@@ -19,7 +19,7 @@ use Rattle.model.specs.declared.Preview.{Preview}
 use Rattle.model.specs.Calls.{Answer, previewed, preview-places}
 use Rattle.model.specs.Answers.{preview}
 use Rattle.model.specs.Start.{Version}
-use Rattle.model.specs.Previews.{placed, preview-of}
+use Rattle.model.specs.DryRun.{placed, preview-of}
 use Rattle.model.specs.PreviewLaws.{placed-all, sound-wider, held-after}
 use Rattle.model.specs.Interface as interface
 use Rattle.model.specs.Replica.{Pending, Replica, newest, opens, install, committed-table, validated, result, commit}
@@ -30,8 +30,8 @@ use Rattle.final_commit.specs.Positions.{at}
 use Rattle.final_walk.specs.Places.{Inside, Placed, placed-inside, placed-table}
 use Rattle.final_decision.specs.declared.Decision.{Decision}
 use Rattle.final_decision.specs.Decide.{Local, Decides, some-version}
-use Rattle.final_decision.specs.Found as found
-use Rattle.final_decision.specs.Found.{Found, commit-at}
+use Rattle.final_decision.specs.FoundAt as found
+use Rattle.final_decision.specs.FoundAt.{Found, commit-at}
 use Rattle.dry_run.specs.Values.{Gathered}
 
 -- the answer to a dry run whose delivery would come to this

@@ -11,7 +11,7 @@ use Rattle.layout.specs.Act.{act}
 use Rattle.layout.specs.Areas.{act-accepted}
 use Rattle.layout.specs.Contract.{met-query}
 use Rattle.final_admission.specs.Admission.{Shaped, shaped-passed, Admitted, Turned, admitted-keyed, met-turned}
-use Rattle.final_decision.specs.Found.{Found, passed-found, commit-at}
+use Rattle.final_decision.specs.FoundAt.{Found, passed-found, commit-at}
 use Rattle.dry_run.specs.Foreseen.{shown-of, Foresees}
 use Rattle.dry_run.specs.Previews.{Previews, turned-back, previews-refused, previews-accepted}
 

@@ -16,7 +16,7 @@ ghost use Rattle.layout.specs.Contract.{Supported};
 ghost use Rattle.committed_table.specs.Committed.{Laid};
 ghost use Rattle.final_walk.specs.Places.{Inside};
 ghost use Rattle.final_decision.specs.Decide.{Local};
-ghost use Rattle.final_decision.specs.Found.{Found};
+ghost use Rattle.final_decision.specs.FoundAt.{Found};
 ghost use Rattle.dry_run.specs.Values.{Gathered};
 ghost use Rattle.dry_run.specs.Foreseen.{Foresees};
 ghost use Rattle.dry_run.specs.Previews.{turned-back, Previews};

@@ -162,7 +162,8 @@ pub extern "C" fn jobstore_dry_run(
     client: u32,
     sequence: u32,
 ) -> Previewed
-    ensures { λ r. ⌜ Exported (dry-run client sequence) (now (records .entry), now (bodies .entry)) (previewed r) (now (records .entry), now (bodies .entry)) ⌝ }
+    ensures { λ r. ⌜ Exported (dry-run client sequence) (now (records .entry), now (bodies .entry))
+        (previewed r) (now (records .entry), now (bodies .entry)) ⌝ }
 {
     ffi_numbers::preview_numbers(replica::dry_run(records, bodies, client, sequence))
 }

@@ -1,3 +1,3 @@
--- Decide: the early results or a new execution. Found: the transaction found and the decision on it, before anything is written.
+-- Decide: the early results or a new execution. FoundAt: the transaction found and the decision on it, before anything is written.
 pub mod Decide
-pub mod Found
+pub mod FoundAt

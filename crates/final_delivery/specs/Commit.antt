@@ -39,7 +39,7 @@ use Rattle.final_walk.specs.Places.{Placed}
 use Rattle.final_walk.specs.Walk.{Walking, Walks}
 use Rattle.final_decision.specs.declared.Decision.{Decision}
 use Rattle.final_decision.specs.Decide.{Local, Decides, shaped-some}
-use Rattle.final_decision.specs.Found.{Found, commit-at, placed, decided, writes-named, stored-count}
+use Rattle.final_decision.specs.FoundAt.{Found, commit-at, placed, decided, writes-named, stored-count}
 
 -- ---- timestamp and last number
 
@@ -167,7 +167,8 @@ module _ {l : Limits} {b c : List ℕ} {cl i : ℕ} (s : Sane l) (m : Local l) (
               walked : Holds l b4 (final t ws)
               walked = h4 .holds walking
 
-              pub found-done : {r : Commit} → r .outcome ≡ d .outcome → r .validated ≡ d .validated → r .timestamp .0 ≡ t → r .stored ≡ d .stored → r .operations ≡ d .operations → Answered l b4 c3 (commit-at u cl sq i) r
+              pub found-done : {r : Commit} → r .outcome ≡ d .outcome → r .validated ≡ d .validated → r .timestamp .0 ≡ t → r .stored ≡ d .stored → r .operations ≡ d .operations
+                  → Answered l b4 c3 (commit-at u cl sq i) r
               unfolding commit
               found-done {r} eo ek er es ew =
                   let f = decided s m p e g in

@@ -14,7 +14,7 @@ use Rattle.layout.specs.Areas.{act-accepted}
 use Rattle.layout.specs.Holds.{holds-print}
 use Rattle.layout.specs.Contract.{Met}
 use Rattle.final_admission.specs.Admission.{Shaped, shaped-passed, Admitted, Turned, admitted-keyed, met-turned}
-use Rattle.final_decision.specs.Found.{Found, passed-found, commit-at}
+use Rattle.final_decision.specs.FoundAt.{Found, passed-found, commit-at}
 use Rattle.final_delivery.specs.Commit.{Commits}
 
 module _ {l : Limits} {a : Areas} (q : Shaped l a) where

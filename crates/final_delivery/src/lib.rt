@@ -14,7 +14,7 @@ ghost use Rattle.model.specs.Answers.{delivery};
 ghost use Rattle.layout.specs.Fit.{fit};
 ghost use Rattle.layout.specs.Contract.{Supported, Met};
 ghost use Rattle.final_decision.specs.Decide.{Local};
-ghost use Rattle.final_decision.specs.Found.{Found};
+ghost use Rattle.final_decision.specs.FoundAt.{Found};
 ghost use Rattle.final_delivery.specs.Commit.{Commits, Marking, Marks};
 
 // The replica's timestamp and the client's last number after a commit.

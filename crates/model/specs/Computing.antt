@@ -5,7 +5,7 @@ use Rattle.operation.specs.Encode.{written, encode}
 use Rattle.execution.specs.Bounds.{inside}
 use Rattle.execution.specs.Run.{sum, move, start, obey, step, steps, whole, counted, whole-count}
 use Rattle.model.specs.Calls.{clients, most-work, last-timestamp, preview-places, numbers, causes, refusal}
-use Rattle.model.specs.Previews.{placed}
+use Rattle.model.specs.DryRun.{placed}
 use Rattle.model.specs.Replica.{held, prune, install, advance, worked, work-count, restarted, walk, validated, result, rework, facts, commit, opened, perform, call, calls}
 use Rattle.model.specs.Limits.{standard, small}
 

@@ -12,10 +12,11 @@ use Rattle.operation.specs.BodyLaws.{valid-drop}
 use Rattle.execution.specs.Run.{Run, start, steps}
 use Rattle.model.specs.declared.Limits.{Limits}
 use Rattle.model.specs.Lists.{pick, keep}
-use Rattle.model.specs.Interface.{optimistic, execute, final, open-reader, close-reader, Query, read, find, show-body, dry-run, Call, opening, update, query, Committed, version, previewed, Yield, committed, observed, Answer, yielded}
+use Rattle.model.specs.Interface.{optimistic, execute, final, open-reader, close-reader, Query, read, find, show-body, dry-run, Call, opening, update, query}
+use Rattle.model.specs.Interface.{Committed, version, previewed, Yield, committed, observed, Answer, yielded}
 use Rattle.model.specs.Calls.{compared-commit, compared-observation, compared, seen, Transaction, is-key, leaves, bytes-of, refusal, judged}
 use Rattle.model.specs.Start.{Start, start-of}
-use Rattle.model.specs.Previews.{preview-of}
+use Rattle.model.specs.DryRun.{preview-of}
 use Rattle.model.specs.Serial as serial
 use Rattle.model.specs.Serial.{Version, no-version, Serial, is-some, ran}
 use Rattle.model.specs.Replica.{Pending, Replica, newest, as-of, view, opens, prune, table, committed-table, install, walk, program, pending-of, has-key, keyed, stays, result, facts, commit, delivered, opened, reply, perform, call}

@@ -2,7 +2,7 @@ pub mod Lists
 pub mod Interface
 pub mod Calls
 pub mod Start
-pub mod Previews
+pub mod DryRun
 pub mod Serial
 pub mod Replica
 pub mod Answers

@@ -10,7 +10,7 @@ use Rattle.operation.specs.Encode.{encode}
 use Rattle.operation.specs.declared.Operation.the-variants.{Load, Store, Set, Add, Fail}
 use Rattle.model.specs.Calls.{Opening, by-values, Call, optimistic, execute, final, dry-run, Answer, previewed, seen}
 use Rattle.model.specs.Start.{Version, start-of}
-use Rattle.model.specs.Previews.{placed, preview-of}
+use Rattle.model.specs.DryRun.{placed, preview-of}
 use Rattle.model.specs.Serial as serial
 use Rattle.model.specs.Serial.{Serial}
 use Rattle.model.specs.Replica.{Replica, opened, call, calls}

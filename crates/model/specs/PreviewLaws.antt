@@ -14,7 +14,7 @@ use Rattle.execution.specs.Entries.{Entry, lookup}
 use Rattle.execution.specs.ReadAgreement.{both}
 use Rattle.execution.specs.RunShape.{every, sound}
 use Rattle.model.specs.Start.{Version, no-version}
-use Rattle.model.specs.Previews.{placed}
+use Rattle.model.specs.DryRun.{placed}
 use Rattle.model.specs.Replica.{newest, install}
 use Rattle.model.specs.VersionLaws.{replaced, overlay, newest-install}
 use Rattle.model.specs.Simulation.{length-overlay, overlay-at}

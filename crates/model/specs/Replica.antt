@@ -14,10 +14,11 @@ use Rattle.execution.specs.Bounds.{Bounds, no-bounds, inside}
 use Rattle.execution.specs.Run.{Table, Run, start, ended, steps, whole, counted, whole-count, matches, over}
 use Rattle.model.specs.declared.Limits.{Limits}
 use Rattle.model.specs.Lists.{pick, keep, any, count, index, mapi}
-use Rattle.model.specs.Interface.{optimistic, execute, final, open-reader, close-reader, Query, read, find, show-body, dry-run, Call, opening, update, query, Committed, Observation, version, found, body, previewed, Yield, done, executed, committed, observed, Answer}
+use Rattle.model.specs.Interface.{optimistic, execute, final, open-reader, close-reader, Query, read, find, show-body, dry-run, Call, opening, update, query}
+use Rattle.model.specs.Interface.{Committed, Observation, version, found, body, previewed, Yield, done, executed, committed, observed, Answer}
 use Rattle.model.specs.Calls.{Transaction, is-key, leaves, Facts, refusal, shown, judged}
 use Rattle.model.specs.Start.{Version, no-version, Start, start-of, Object, objects-from}
-use Rattle.model.specs.Previews.{preview-of}
+use Rattle.model.specs.DryRun.{preview-of}
 use Rattle.model.specs.Serial.{is-some}
 
 -- a pending transaction with its run on record ("early results")

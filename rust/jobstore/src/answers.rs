@@ -89,6 +89,23 @@ pub struct Reading {
     pub stamp: u32,
 }
 
+/// The places for values in a [`Preview`], however many objects there are.
+pub const PREVIEW_PLACES: usize = 128;
+
+/// What a final delivery would do, as [`dry_run`](crate::Replica::dry_run) tells.
+#[derive(Clone, Copy, PartialEq, Eq, Debug)]
+#[non_exhaustive]
+pub struct Preview {
+    /// How the job would end.
+    pub outcome: Outcome,
+    /// The early results would be kept; else the job would be run again.
+    pub kept: bool,
+    /// The commit stamp that it would get.
+    pub stamp: u32,
+    /// The value that each object would hold, by the object's number. Past the last object it is 0.
+    pub values: [i64; PREVIEW_PLACES],
+}
+
 /// Where [`find`](crate::Replica::find) found a pending job.
 #[derive(Clone, Copy, PartialEq, Eq, Debug)]
 #[non_exhaustive]

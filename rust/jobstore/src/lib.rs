@@ -1,8 +1,8 @@
 //! One replica of the cabinet job store: a safe face to the proved library.
 //!
 //! A replica holds a table of objects, each with [`Bounds`] where it is given any. Jobs come to it early, in the order
-//! in which they will probably commit, and are worked on; they commit, one by one, at their final delivery. Readers see
-//! the table as it was when they were opened.
+//! in which they will probably commit, and are worked on; they commit, one by one, at their final delivery. What that
+//! would do, a [dry run](Replica::dry_run) tells beforehand. Readers see the table as it was when they were opened.
 //!
 //! ```
 //! use jobstore::{Body, Outcome, Refusal, Replica};
@@ -40,7 +40,7 @@ pub mod raw;
 mod refusal;
 mod replica;
 
-pub use answers::{Committed, Executed, Found, Key, Outcome, Reading};
+pub use answers::{Committed, Executed, Found, Key, Outcome, Preview, Reading, PREVIEW_PLACES};
 pub use body::{Body, BODY_LENGTH};
 pub use bounds::Bounds;
 pub use refusal::Refusal;

@@ -7,6 +7,8 @@
 //! [`Replica`](crate::Replica) sees to all of it.
 #![allow(clippy::missing_safety_doc, missing_docs)]
 
+use crate::answers::PREVIEW_PLACES;
+
 #[repr(C)]
 #[derive(Clone, Copy, PartialEq, Eq, Debug)]
 pub struct Executed {
@@ -47,6 +49,16 @@ pub struct Found {
 pub struct Part {
     pub start: u32,
     pub length: u32,
+}
+
+#[repr(C)]
+#[derive(Clone, Copy, PartialEq, Eq, Debug)]
+pub struct Preview {
+    pub number: u32,
+    pub outcome: u32,
+    pub kept: u32,
+    pub stamp: u32,
+    pub values: [i64; PREVIEW_PLACES],
 }
 
 extern "C" {
@@ -129,4 +141,12 @@ extern "C" {
         client: u32,
         sequence: u32,
     ) -> Part;
+    pub fn jobstore_dry_run(
+        record: *const u8,
+        record_length: usize,
+        bodies: *const u8,
+        bodies_length: usize,
+        client: u32,
+        sequence: u32,
+    ) -> Preview;
 }

@@ -1,6 +1,6 @@
-//! A replica in two areas, and its nine calls. The unsafe code of the package is here.
+//! A replica in two areas, and its ten calls. The unsafe code of the package is here.
 
-use crate::answers::{Committed, Executed, Found, Key, Outcome, Reading};
+use crate::answers::{Committed, Executed, Found, Key, Outcome, Preview, Reading};
 use crate::bounds::Bounds;
 use crate::raw;
 use crate::refusal::{judged, Refusal};
@@ -172,6 +172,42 @@ impl<A: AsRef<[u8]>> Replica<A> {
         };
         let shown = &bodies[start as usize..][..length as usize];
         Some(shown).filter(|body| !body.is_empty())
+    }
+
+    /// Dry run: what [`deliver_final`](Replica::deliver_final) of a pending key would do if it came now, and what each
+    /// object would hold after it. It tells what the delivery on a [`copy`](Replica::copy) would, without the copy.
+    ///
+    /// ```
+    /// # use jobstore::{Body, Bounds, Outcome, Refusal, Replica};
+    /// # fn main() -> Result<(), Refusal> {
+    /// // A tank of 20 litres that holds 0 to 50, and a route that draws 15 of them.
+    /// let mut replica = Replica::opened_with_bounds(&[20], Bounds { lower: &[0], upper: &[50] }, 0)?;
+    /// replica.deliver_early((1, 1), Body::new().load(0, 0).set(1, 15).subtract(0, 1).store(0, 0))?;
+    ///
+    /// let preview = replica.dry_run((1, 1))?;
+    /// assert_eq!((preview.outcome, preview.kept, preview.stamp), (Outcome::Done, false, 1));
+    /// assert_eq!(preview.values[..2], [5, 0]); // 1 is past the last object
+    ///
+    /// // Nothing has changed: the tank still has its 20 litres until the route is released.
+    /// let committed = replica.deliver_final((1, 1))?;
+    /// assert_eq!((committed.outcome, committed.kept, committed.stamp), (Outcome::Done, false, 1));
+    /// # Ok(())
+    /// # }
+    /// ```
+    ///
+    /// # Errors
+    ///
+    /// Those of the final delivery. In this order: [`Refusal::Area`], [`Refusal::Client`], [`Refusal::Spent`],
+    /// [`Refusal::NotPending`], [`Refusal::LastStamp`].
+    pub fn dry_run(&self, key: impl Into<Key>) -> Result<Preview, Refusal> {
+        let Key { client, sequence } = key.into();
+        let (record, bodies) = (self.record(), self.bodies());
+        // SAFETY: both slices are valid for their lengths, and the call writes nothing.
+        let raw::Preview { number, outcome, kept, stamp, values } = unsafe {
+            raw::jobstore_dry_run(record.as_ptr(), record.len(), bodies.as_ptr(), bodies.len(), client, sequence)
+        };
+        let outcome = Outcome::from_number(outcome);
+        judged(number, Preview { outcome, kept: kept == 1, stamp, values })
     }
 }
 

@@ -1,6 +1,7 @@
-//! The ten cases of "A small depot", bounds, stamps beside values, operations carried out, and each refusal.
+//! The ten cases of "A small depot", bounds, stamps beside values, operations carried out, dry runs, and each refusal.
 
-use jobstore::{Body, Bounds, Committed, Executed, Found, Outcome, Refusal, Replica, BODIES_LENGTH, RECORD_LENGTH};
+use jobstore::{Body, Bounds, Committed, Executed, Found, Outcome, Preview, Refusal, Replica};
+use jobstore::{BODIES_LENGTH, PREVIEW_PLACES, RECORD_LENGTH};
 
 fn add_5() -> Body {
     Body::new().load(0, 0).set(1, 5).add(0, 1).store(0, 0)
@@ -217,6 +218,7 @@ fn what_was_inside_early_may_be_outside_in_the_end() -> Result<(), Refusal> {
     replica.deliver_early((1, 1), Body::new().load(0, 0).set(1, 30).add(0, 1).store(0, 0))?;
     replica.deliver_early((2, 1), Body::new().load(0, 0).set(1, 24).subtract(0, 1).store(0, 0))?;
     assert_eq!(executed(replica.work(100)?), (8, 2));
+    assert_eq!(tried(&replica, (2, 1), 2)?, (Outcome::Outside, false, 1, vec![20, 20]));
     assert_eq!(committed(replica.deliver_final((2, 1))?), (Outcome::Outside, false, 1, 0, 4));
     assert_eq!(committed(replica.deliver_final((1, 1))?), (Outcome::Done, true, 2, 1, 0));
     assert_eq!(table(&replica, 2)?, [50, 20]);
@@ -377,6 +379,90 @@ fn work_of_16_operations_for_each_pending_job_finishes_all() -> Result<(), Refus
     Ok(())
 }
 
+/// A dry run's outcome, kept, stamp, and values of this many objects; past them there are zeros. No byte changes, and on
+/// a copy the final delivery does what was told.
+fn tried(replica: &Replica, key: (u32, u32), n: u32) -> Result<(Outcome, bool, u32, Vec<i64>), Refusal> {
+    let mut copy = replica.copy();
+    let Preview { outcome, kept, stamp, values, .. } = replica.dry_run(key)?;
+    assert!(copy == *replica, "a dry run changed a byte");
+    let done = copy.deliver_final(key)?;
+    assert_eq!((outcome, kept, stamp), (done.outcome, done.kept, done.stamp));
+    let (values, past) = values.split_at(n as usize);
+    assert_eq!(values, table(&copy, n)?);
+    assert_eq!(past, vec![0; PREVIEW_PLACES - n as usize]);
+    Ok((outcome, kept, stamp, values.to_vec()))
+}
+
+/// Whatever was done early, the values are the same. C read early what A stored.
+#[test]
+fn a_dry_run_tells_what_is_kept_and_what_is_run_again() -> Result<(), Refusal> {
+    for (replica, kept) in [(worked()?, [true, true, false]), (depot()?, [false; 3])] {
+        assert_eq!(tried(&replica, (1, 1), 3)?, (Outcome::Done, kept[0], 1, vec![15, 20, 30]));
+        assert_eq!(tried(&replica, (2, 1), 3)?, (Outcome::Done, kept[1], 1, vec![10, 20, 20]));
+        assert_eq!(tried(&replica, (3, 1), 3)?, (Outcome::Done, kept[2], 1, vec![10, 10, 30]));
+    }
+    Ok(())
+}
+
+/// The delivery itself then does what was told, and the next dry run starts from what it left.
+#[test]
+fn a_dry_run_before_each_final_delivery() -> Result<(), Refusal> {
+    let mut replica = worked()?;
+    let due = [(3, false, [10, 10, 30]), (1, true, [15, 10, 30]), (2, false, [15, 10, 10])];
+    for (stamp, (client, kept, values)) in (1..).zip(due) {
+        assert_eq!(tried(&replica, (client, 1), 3)?, (Outcome::Done, kept, stamp, values.to_vec()));
+        let done = replica.deliver_final((client, 1))?;
+        assert_eq!((done.outcome, done.kept, done.stamp), (Outcome::Done, kept, stamp));
+        assert_eq!(table(&replica, 3)?, values);
+    }
+    Ok(())
+}
+
+/// Object 1 is stored before the end comes.
+#[test]
+fn a_dry_run_that_is_not_done_leaves_the_values() -> Result<(), Refusal> {
+    let stored = || Body::new().load(0, 0).store(0, 1).set(1, i64::MIN).store(1, 1);
+    let ends = [
+        (stored().fail(), Outcome::Fail),
+        (stored().add(0, 1).store(0, 1), Outcome::Overflow),
+        (stored().store(1, 0), Outcome::Outside),
+    ];
+    for (body, outcome) in ends {
+        let mut replica = gauge(-7)?;
+        replica.deliver_early((1, 1), body)?;
+        assert_eq!(tried(&replica, (1, 1), 2)?, (outcome, false, 1, vec![-7, 0]));
+        replica.work(1)?;
+        assert_eq!(tried(&replica, (1, 1), 2)?, (outcome, false, 1, vec![-7, 0]));
+        replica.work(100)?;
+        assert_eq!(tried(&replica, (1, 1), 2)?, (outcome, true, 1, vec![-7, 0]));
+    }
+    Ok(())
+}
+
+#[test]
+fn a_dry_run_has_a_place_for_every_object() -> Result<(), Refusal> {
+    for n in [1, 2, 127, 128] {
+        let mut values: Vec<i64> = (1..=n).map(|object| -object).collect();
+        let mut replica = Replica::opened(&values, u32::MAX - 1)?;
+        let last = n as usize - 1;
+        replica.deliver_early((15, u32::MAX), Body::new().set(0, i64::MIN).store(0, last as u8))?;
+        values[last] = i64::MIN;
+        assert_eq!(tried(&replica, (15, u32::MAX), n as u32)?, (Outcome::Done, false, u32::MAX, values));
+    }
+    Ok(())
+}
+
+/// A reader goes on with the old version; a dry run starts from the newest.
+#[test]
+fn a_dry_run_does_not_look_at_readers() -> Result<(), Refusal> {
+    let mut replica = depot()?;
+    replica.open_reader(0)?;
+    replica.deliver_final((1, 1))?;
+    assert_eq!(seen(&replica, 0, 0)?, (10, 0));
+    assert_eq!(tried(&replica, (3, 1), 3)?, (Outcome::Done, false, 2, vec![15, 15, 30]));
+    Ok(())
+}
+
 #[test]
 fn find_and_show_body() -> Result<(), Refusal> {
     let replica = depot()?;
@@ -399,6 +485,7 @@ fn areas_owned_and_lent() -> Result<(), Refusal> {
     let shared = Replica::over(&record[..], &bodies[..]);
     assert_eq!((shared.read(0, 1)?.value, shared.find((2, 1))?.place), (20, 1));
     assert_eq!(shared.show_body((2, 1)).map(<[u8]>::len), Some(23));
+    assert_eq!(shared.dry_run((2, 1))?.values[..3], [10, 20, 20]);
     let owned = shared.copy();
     assert_eq!((owned.record(), owned.bodies()), (&record[..], &bodies[..]));
     Ok(())
@@ -421,6 +508,7 @@ fn refused_areas() -> Result<(), Refusal> {
         assert_eq!(replica.read(0, 0), Err(Refusal::Area));
         assert_eq!(replica.find((1, 1)), Err(Refusal::Area));
         assert_eq!(replica.show_body((1, 1)), None);
+        assert_eq!(replica.dry_run((1, 1)), Err(Refusal::Area));
     }
     assert_eq!(refused(&mut short, |r| r.open(&[1], 0)), Some(Refusal::Area));
     let mut no_bodies = Replica::over(vec![0; RECORD_LENGTH], Vec::new());
@@ -443,6 +531,24 @@ fn refused_openings_and_deliveries() -> Result<(), Refusal> {
     let mut last = Replica::opened(&[10], u32::MAX)?;
     last.deliver_early((1, 1), add_5())?;
     assert_eq!(refused(&mut last, |r| r.deliver_final((1, 1))), Some(Refusal::LastStamp));
+    Ok(())
+}
+
+/// Each cause where all that come after it in the order hold too; in the end all of them on areas that fail the check.
+#[test]
+fn refused_dry_runs() -> Result<(), Refusal> {
+    let mut last = Replica::opened(&[10], u32::MAX)?;
+    last.deliver_early((1, 1), add_5())?;
+    let keys = [(16, 0), (1, 0), (1, 2), (1, 1)];
+    let refusals = [Refusal::Client, Refusal::Spent, Refusal::NotPending, Refusal::LastStamp];
+    for (key, refusal) in keys.into_iter().zip(refusals) {
+        assert_eq!(refused(&mut last, |r| r.dry_run(key)), Some(refusal));
+        assert_eq!(refused(&mut last, |r| r.deliver_final(key)), Some(refusal));
+    }
+    last.areas_mut().0[200] = 9;
+    for key in keys {
+        assert_eq!(refused(&mut last, |r| r.dry_run(key)), Some(Refusal::Area));
+    }
     Ok(())
 }
 

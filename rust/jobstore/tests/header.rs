@@ -1,6 +1,6 @@
 //! What this package and the C header both say.
 
-use jobstore::{Refusal, BODIES_LENGTH, BODY_LENGTH, RECORD_LENGTH};
+use jobstore::{Refusal, BODIES_LENGTH, BODY_LENGTH, PREVIEW_PLACES, RECORD_LENGTH};
 
 const HEADER: &str = include_str!("../../../include/jobstore.h");
 
@@ -20,6 +20,7 @@ fn version_and_lengths() {
     assert_eq!(defined("RECORD_LENGTH"), RECORD_LENGTH.to_string());
     assert_eq!(defined("BODIES_LENGTH"), BODIES_LENGTH.to_string());
     assert_eq!(defined("BODY_LENGTH"), BODY_LENGTH.to_string());
+    assert_eq!(defined("PREVIEW_PLACES"), PREVIEW_PLACES.to_string());
 }
 
 /// The enum names each number, and the text stands behind the name's case.
@@ -35,13 +36,17 @@ fn refusals() {
     }
 }
 
-/// A field of a C struct, as `raw.rs` has it.
+/// A field of a C struct, as `raw.rs` has it. The length of an array has the same name here as there.
 fn field(line: &str) -> String {
     let (declared, _) = line.split_once(';').unwrap();
-    match declared.trim().split_once(' ') {
-        Some(("uint32_t", name)) => format!("    pub {name}: u32,\n"),
-        Some(("int64_t", name)) => format!("    pub {name}: i64,\n"),
+    let (item, name) = match declared.trim().split_once(' ') {
+        Some(("uint32_t", name)) => ("u32", name),
+        Some(("int64_t", name)) => ("i64", name),
         _ => panic!("{declared} is of another type"),
+    };
+    match name.strip_suffix(']').and_then(|array| array.split_once("[JOBSTORE_")) {
+        Some((name, length)) => format!("    pub {name}: [{item}; {length}],\n"),
+        None => format!("    pub {name}: {item},\n"),
     }
 }
 
@@ -49,7 +54,7 @@ fn field(line: &str) -> String {
 #[test]
 fn answers() {
     let raw = include_str!("../src/raw.rs");
-    for name in ["Executed", "Committed", "Value", "Found", "Part"] {
+    for name in ["Executed", "Committed", "Value", "Found", "Part", "Preview"] {
         let fields = between(&format!("struct jobstore_{} {{\n", name.to_lowercase()), "};").lines().map(field);
         let answer = format!("pub struct {name} {{\n{}}}", fields.collect::<String>());
         assert!(raw.contains(&answer), "the header has {answer}");

@@ -63,6 +63,7 @@ fn calls_that_change_nothing_run_at_once() -> Result<(), Refusal> {
                     assert_eq!(shared.read(0, object).unwrap().value, 10 * i64::from(object + 1));
                     assert_eq!(shared.find((1, 1)).unwrap().place, 0);
                     assert_eq!(shared.show_body((1, 1)), Some(copy(0, 1).as_bytes()));
+                    assert_eq!(shared.dry_run((1, 1)).unwrap().values[..3], [10, 10, 30]);
                 }
             });
         }
@@ -225,6 +226,26 @@ fn early_orders_and_work_do_not_matter() -> Result<(), Refusal> {
     }
     assert_eq!(table(&ends[0]), [15, 10, 10]);
     assert!(ends.iter().all(|end| *end == ends[0]), "equal replicas have equal bytes");
+    Ok(())
+}
+
+#[test]
+fn a_dry_run_holds_until_the_next_final_delivery() -> Result<(), Refusal> {
+    let mut replica = opened();
+    replica.deliver_early((1, 1), add(0, 5))?;
+    replica.deliver_early((2, 1), copy(0, 1))?;
+    let told = replica.dry_run((2, 1))?;
+    replica.work(512)?;
+    replica.deliver_early((3, 1), add(2, 1))?;
+    assert_eq!(replica.dry_run((2, 1))?, told);
+
+    // Another final delivery may change all of it, and early results that were worth nothing are kept now.
+    replica.deliver_final((1, 1))?;
+    let now = replica.dry_run((2, 1))?;
+    assert_eq!((told.kept, now.kept), (false, true));
+    assert_eq!((now.stamp, now.values[1]), (told.stamp + 1, told.values[1] + 5));
+    assert_eq!(replica.deliver_final((2, 1))?.stamp, now.stamp);
+    assert_eq!(table(&replica)[..], now.values[..table(&replica).len()]);
     Ok(())
 }
 

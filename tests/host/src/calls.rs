@@ -1,7 +1,8 @@
-//! The nine calls: as methods, and with their answers as data, so that lists of calls can be kept, repeated and shortened.
+//! The ten calls: as methods, and with their answers as data, so that lists of calls can be kept, repeated and shortened.
 
 use crate::body::decode;
-use jobstore::raw::{Committed, Executed, Found, Value};
+use jobstore::raw::{Committed, Executed, Found, Preview, Value};
+use jobstore::PREVIEW_PLACES;
 use std::fmt;
 
 /// What an opening is given. That there are n values and n of each bound is for the replica to ask.
@@ -37,6 +38,7 @@ pub enum Call {
     CloseReader { reader: u32 },
     Find { client: u32, sequence: u32 },
     ShowBody { client: u32, sequence: u32 },
+    DryRun { client: u32, sequence: u32 },
 }
 
 #[derive(Clone, PartialEq, Eq, Debug)]
@@ -47,9 +49,10 @@ pub enum Answer {
     Value(Value),
     Found(Found),
     Body(Vec<u8>),
+    Preview(Box<Preview>),
 }
 
-/// What has the nine calls. Answers are the papers': a number, and what stands beside it.
+/// What has the ten calls. Answers are the papers': a number, and what stands beside it.
 pub trait Calls {
     fn open(&mut self, opening: &Opening) -> u32;
     fn early(&mut self, client: u32, sequence: u32, body: &[u8]) -> u32;
@@ -61,6 +64,8 @@ pub trait Calls {
     fn find(&self, client: u32, sequence: u32) -> Found;
     /// Empty exactly when `find` refuses.
     fn show_body(&self, client: u32, sequence: u32) -> &[u8];
+    /// As [`previewed`] has it from the final delivery.
+    fn dry_run(&self, client: u32, sequence: u32) -> Preview;
 
     fn perform(&mut self, call: &Call) -> Answer {
         match *call {
@@ -73,6 +78,7 @@ pub trait Calls {
             Call::CloseReader { reader } => Answer::Number(self.close_reader(reader)),
             Call::Find { client, sequence } => Answer::Found(self.find(client, sequence)),
             Call::ShowBody { client, sequence } => Answer::Body(self.show_body(client, sequence).to_vec()),
+            Call::DryRun { client, sequence } => Answer::Preview(Box::new(self.dry_run(client, sequence))),
         }
     }
 }
@@ -90,6 +96,7 @@ impl Call {
             Call::CloseReader { .. } => "close",
             Call::Find { .. } => "find",
             Call::ShowBody { .. } => "show body",
+            Call::DryRun { .. } => "dry run",
         }
     }
 }
@@ -104,6 +111,7 @@ impl Answer {
             Answer::Value(value) => Some(value.number),
             Answer::Found(found) => Some(found.number),
             Answer::Body(_) => None,
+            Answer::Preview(preview) => Some(preview.number),
         }
     }
 
@@ -118,6 +126,7 @@ impl Answer {
                 Answer::Executed(Executed { number, operations: 0, finished: 0 })
             }
             Answer::Committed(committed) => Answer::Committed(seen(committed)),
+            Answer::Preview(ref preview) => Answer::Preview(Box::new(Preview { kept: 0, ..**preview })),
             ref other => other.clone(),
         }
     }
@@ -126,6 +135,17 @@ impl Answer {
 /// What the plain table's final delivery has to equal: it keeps nothing, and counts no operations.
 pub fn seen(committed: Committed) -> Committed {
     Committed { kept: 0, operations: 0, ..committed }
+}
+
+/// What a dry run yields, from the final delivery done on a copy and the values there after it: 128 places whatever the
+/// limits, zeros past the last object, and beside a refusal nothing but zeros.
+pub fn previewed(committed: Committed, after: impl IntoIterator<Item = i64>) -> Preview {
+    let Committed { number, outcome, kept, stamp, .. } = committed;
+    let mut values = [0; PREVIEW_PLACES];
+    if number == 0 {
+        values.iter_mut().zip(after).for_each(|(place, value)| *place = value);
+    }
+    Preview { number, outcome, kept, stamp, values }
 }
 
 impl fmt::Debug for Opening {
@@ -154,6 +174,7 @@ impl fmt::Debug for Call {
             Call::CloseReader { reader } => write!(out, "close {reader}"),
             Call::Find { client, sequence } => write!(out, "find ({client}, {sequence})"),
             Call::ShowBody { client, sequence } => write!(out, "show body ({client}, {sequence})"),
+            Call::DryRun { client, sequence } => write!(out, "dry run ({client}, {sequence})"),
         }
     }
 }

@@ -2,7 +2,7 @@
 //! by side: every answer, and both areas after every call.
 
 use crate::body::decode;
-use crate::calls::{Answer, Call, Calls};
+use crate::calls::{previewed, Answer, Call, Calls};
 use crate::coverage::Coverage;
 use crate::face::Face;
 use crate::independent::{overlay, Bounds, Independent, Run, State, Version};
@@ -58,8 +58,12 @@ impl Comparison {
         if answer.refused() {
             same("areas changed by a refusal", self.library == before, true)?;
         }
-        if let Call::ShowBody { client, sequence } = call {
-            self.compare_part(*client, *sequence)?;
+        match *call {
+            Call::ShowBody { client, sequence } => self.compare_part(client, sequence)?,
+            Call::DryRun { client, sequence } | Call::Final { client, sequence } => {
+                self.compare_dry_run(client, sequence, &before)?;
+            }
+            _ => {}
         }
         self.compare_areas(&before)?;
         self.compare_ceiling()?;
@@ -135,6 +139,18 @@ impl Comparison {
             same("the very bytes", part.as_ptr_range(), very.as_ptr_range())?;
         }
         Ok(())
+    }
+
+    /// A dry run changes no byte, and the final delivery does on a copy of both areas what it told. This is asked of every
+    /// dry run, and of one right before every final delivery.
+    fn compare_dry_run(&self, client: u32, sequence: u32, before: &Library) -> Result<(), Difference> {
+        let mut copy = before.clone();
+        let preview = before.dry_run(client, sequence);
+        same("areas changed by a dry run", *before == copy, true)?;
+        let committed = copy.deliver_final(client, sequence);
+        let after = parse(self.limits, &copy.record, &copy.bodies);
+        let delivered = previewed(committed, after.iter().flat_map(State::committed));
+        same("dry run and the final delivery on a copy", preview, delivered)
     }
 
     fn compare_areas(&self, before: &Library) -> Result<(), Difference> {

@@ -12,7 +12,7 @@ use crate::layout::{self, cell, parse, print, set_cell};
 use crate::library::Library;
 use crate::limits::{Limits, CLIENTS, REGISTERS, STANDARD};
 use crate::lists::Mix;
-use crate::observation::FIRST_RUN_AGAIN;
+use crate::observation::{verdicts, FIRST_RUN_AGAIN};
 use crate::random::Random;
 
 /// A state that some list of calls leads to.
@@ -237,6 +237,7 @@ fn every_call(random: &mut Random, mix: &Mix, state: &State) -> Vec<Call> {
         Call::Read { reader: 0, object: 0 },
         Call::Find { client, sequence },
         Call::ShowBody { client, sequence },
+        Call::DryRun { client, sequence },
         Call::Early { client, sequence: fresh, body: valid(random, state.objects.len(), taste) },
         Call::Work { count: 7 },
         Call::Final { client, sequence },
@@ -308,14 +309,13 @@ pub fn compare_damages(seed: u64, lists: u64) -> Result<Coverage, Difference> {
 /// All that damaged areas have to come across.
 pub fn required() -> Vec<String> {
     let kinds = ["bit flipped", "bytes overwritten", "rows or bodies exchanged", "cell changed", "forged"];
-    let verdicts = kinds.iter().flat_map(|kind| [format!("{kind}: passes"), format!("{kind}: fails")]);
+    let damages = kinds.iter().flat_map(|kind| [format!("{kind}: passes"), format!("{kind}: fails")]);
     let sentences = layout::SENTENCES.iter().map(|sentence| format!("fails: {sentence}"));
-    let calls = ["open", "early", "work", "final", "open reader", "read", "close", "find"];
+    let calls = ["open", "early", "work", "final", "open reader", "read", "close", "find", "dry run"];
     let refused = calls.iter().map(|call| format!("{call} 1"));
     let unfinished = "forged: passes, with transactions unfinished";
     let others = ["other lengths: fails", "show body: empty", unfinished, FIRST_RUN_AGAIN];
-    let kept =
-        (0..4).flat_map(|outcome| ["kept", "run again"].map(|verdict| format!("final: outcome {outcome}, {verdict}")));
-    let verdicts = verdicts.chain(bounds_damage::required()).chain(sentences);
-    verdicts.chain(refused).chain(others.map(str::to_string)).chain(kept).collect()
+    let damages = damages.chain(bounds_damage::required()).chain(sentences);
+    let runs = verdicts("final").chain(verdicts("dry run"));
+    damages.chain(refused).chain(others.map(str::to_string)).chain(runs).collect()
 }

@@ -66,6 +66,7 @@ fn calls(random: &mut Random, state: &State) -> Vec<Call> {
         Call::Early { client: 0, sequence: u32::MAX, body: valid(random, n, taste) },
         Call::OpenReader { reader: closed },
         Call::ShowBody { client, sequence },
+        Call::DryRun { client, sequence },
     ]
 }
 
@@ -180,7 +181,7 @@ pub fn required() -> Vec<String> {
     names.extend(["lower bound", "upper bound"].map(either).concat());
     names.extend(["number of objects", "number pending"].map(fails));
     names.extend(["unused object", "unused row", "unused body", "tail of a body"].map(fails));
-    for call in ["find", "read", "work", "final", "close", "early", "open reader", "show body"] {
+    for call in ["find", "read", "work", "final", "close", "early", "open reader", "show body", "dry run"] {
         names.extend(either(format!("{call} on areas")));
     }
     names

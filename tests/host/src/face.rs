@@ -2,8 +2,8 @@
 
 use crate::calls::{Calls, Opening};
 use crate::library::Library;
-use jobstore::raw::{Committed, Executed, Found, Value};
-use jobstore::{Bounds, Refusal, Replica};
+use jobstore::raw::{Committed, Executed, Found, Preview, Value};
+use jobstore::{Bounds, Refusal, Replica, PREVIEW_PLACES};
 
 pub struct Face {
     replica: Replica,
@@ -87,5 +87,16 @@ impl Calls for Face {
 
     fn show_body(&self, client: u32, sequence: u32) -> &[u8] {
         self.replica.show_body((client, sequence)).unwrap_or_default()
+    }
+
+    fn dry_run(&self, client: u32, sequence: u32) -> Preview {
+        match self.replica.dry_run((client, sequence)) {
+            Ok(jobstore::Preview { outcome, kept, stamp, values, .. }) => {
+                Preview { number: 0, outcome: outcome.number(), kept: u32::from(kept), stamp, values }
+            }
+            Err(refusal) => {
+                Preview { number: refusal.number(), outcome: 0, kept: 0, stamp: 0, values: [0; PREVIEW_PLACES] }
+            }
+        }
     }
 }

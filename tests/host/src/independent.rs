@@ -2,10 +2,10 @@
 //! It shares no code with the proved library.
 
 use crate::body::{decode, quotient, Operation};
-use crate::calls::{Calls, Opening};
+use crate::calls::{previewed, Calls, Opening};
 use crate::coverage::Coverage;
 use crate::limits::{Limits, CLIENTS, LARGEST_BUDGET, REGISTERS};
-use jobstore::raw::{Committed, Executed, Found, Value};
+use jobstore::raw::{Committed, Executed, Found, Preview, Value};
 
 #[derive(Clone, Copy, PartialEq, Eq, Debug)]
 pub struct Version {
@@ -405,6 +405,12 @@ impl Calls for Independent {
     fn show_body(&self, client: u32, sequence: u32) -> &[u8] {
         let Some(state) = &self.state else { return &[] };
         state.place(client, sequence).map_or(&[], |place| &state.pending[place].body)
+    }
+
+    fn dry_run(&self, client: u32, sequence: u32) -> Preview {
+        let mut copy = Independent { state: self.state.clone(), ..Independent::new(self.limits) };
+        let committed = copy.deliver_final(client, sequence);
+        previewed(committed, copy.state.iter().flat_map(State::committed))
     }
 }
 

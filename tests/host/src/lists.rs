@@ -22,15 +22,15 @@ pub struct Mix {
     in_order: usize,
     /// Work comes in small counts.
     small_work: bool,
-    /// early, work, final, open reader, read, close, find, show body, open.
-    weights: [usize; 9],
+    /// early, work, final, open reader, read, close, find, show body, dry run, open.
+    weights: [usize; 10],
 }
 
-const BUSY: [usize; 9] = [30, 20, 28, 4, 8, 3, 3, 3, 1];
-const FILLING: [usize; 9] = [70, 8, 6, 2, 4, 1, 4, 4, 1];
-const READING: [usize; 9] = [22, 12, 26, 14, 14, 4, 3, 3, 2];
-const EAGER: [usize; 9] = [30, 40, 28, 1, 1, 1, 1, 1, 0];
-const KEEPING: [usize; 9] = [30, 5, 30, 20, 5, 1, 1, 1, 0];
+const BUSY: [usize; 10] = [30, 20, 28, 4, 8, 3, 3, 3, 8, 1];
+const FILLING: [usize; 10] = [70, 8, 6, 2, 4, 1, 4, 4, 4, 1];
+const READING: [usize; 10] = [22, 12, 26, 14, 14, 4, 3, 3, 4, 2];
+const EAGER: [usize; 10] = [30, 40, 28, 1, 1, 1, 1, 1, 12, 0];
+const KEEPING: [usize; 10] = [30, 5, 30, 20, 5, 1, 1, 1, 4, 0];
 
 impl Mix {
     pub fn new(random: &mut Random, limits: Limits) -> Mix {
@@ -115,6 +115,7 @@ impl Mix {
             5 => Call::CloseReader { reader: self.reader(random, state, careless, true) },
             6 => Call::Find { client, sequence },
             7 => Call::ShowBody { client, sequence },
+            8 => Call::DryRun { client, sequence },
             _ if random.percent(70) => Call::Open(self.refused_opening(random)),
             _ => Call::Open(self.opening(random)),
         }

@@ -5,7 +5,8 @@ use crate::calls::{Answer, Call, Opening};
 use crate::coverage::Coverage;
 use crate::independent::{overlay, Bounds, State, Transaction, Version};
 use crate::limits::{Limits, LARGEST_BUDGET};
-use jobstore::raw::{Committed, Executed};
+use jobstore::raw::{Committed, Executed, Preview};
+use jobstore::PREVIEW_PLACES;
 
 /// Only forged early results lead to it: the walk leaves no first transaction with reads that do not match.
 pub const FIRST_RUN_AGAIN: &str = "final: run again, finished and first in the optimistic order";
@@ -48,6 +49,9 @@ pub fn observe(
         (Call::Read { reader, object }, Answer::Value(seen), Some(before), _) if seen.number == 0 => {
             let taken = before.readers[*reader as usize].unwrap();
             read(coverage, seen.stamp, taken, &before.objects[*object as usize], start);
+        }
+        (Call::DryRun { client, sequence }, Answer::Preview(preview), Some(before), _) if preview.number == 0 => {
+            dry_run(coverage, preview, before.place(*client, *sequence).unwrap(), before);
         }
         _ => {}
     }
@@ -165,10 +169,19 @@ fn partly_run(pending: &Transaction) -> bool {
     pending.run.outcome.is_none() && pending.run.program_counter > 0
 }
 
+fn verdict(call: &str, outcome: u32, kept: u32) -> String {
+    format!("{call}: outcome {outcome}, {}", if kept == 1 { "kept" } else { "run again" })
+}
+
+/// Every verdict of a final delivery or a dry run.
+pub fn verdicts(call: &str) -> impl Iterator<Item = String> + '_ {
+    (0..4).flat_map(move |outcome| [0, 1].map(|kept| verdict(call, outcome, kept)))
+}
+
 fn commit(coverage: &mut Coverage, committed: &Committed, place: usize, before: &State, after: &State) {
     let Committed { outcome, kept, stored, stamp, .. } = *committed;
     let delivered = &before.pending[place];
-    coverage.count(&format!("final: outcome {outcome}, {}", if kept == 1 { "kept" } else { "run again" }));
+    coverage.count(&verdict("final", outcome, kept));
     if kept == 1 {
         coverage.count_if(place > 0, "final: kept out of order");
         coverage.count_if(place == 0, "final: kept in order");
@@ -223,6 +236,21 @@ fn walk(coverage: &mut Coverage, stored: u32, before: &State, after: &State) {
     coverage.count_if(unharmed, "walk: all begun ones stay though objects were stored");
 }
 
+/// Where what would be is told from what is, and from the early results on record.
+fn dry_run(coverage: &mut Coverage, preview: &Preview, place: usize, before: &State) {
+    let Preview { outcome, kept, stamp, ref values, .. } = *preview;
+    coverage.count(&verdict("dry run", outcome, kept));
+    let committed = before.committed();
+    let changes = values[..committed.len()] != committed;
+    coverage.count_if(changes && kept == 1, "dry run: kept, and a value changes");
+    coverage.count_if(changes && kept == 0, "dry run: run again, and a value changes");
+    let finished = before.pending[place].run.outcome.is_some();
+    coverage.count_if(finished && kept == 0, "dry run: run again, finished but a read changed");
+    coverage.count_if(stamp == u32::MAX, "dry run: would take the highest stamp");
+    coverage.count_if(committed.len() < PREVIEW_PLACES, "dry run: fewer objects than places");
+    coverage.count_if(committed.len() == PREVIEW_PLACES, "dry run: as many objects as places");
+}
+
 /// Where the stamp beside a value is told from the newest version's, from the next older one's, and from the reader's own, `taken`.
 fn read(coverage: &mut Coverage, stamp: u32, taken: u32, versions: &[Version], start: Option<u32>) {
     let newest = versions.last().unwrap().timestamp;
@@ -242,6 +270,7 @@ const NUMBERS: &[(&str, &[u32])] = &[
     ("read", &[0, 1, 10, 12, 13]),
     ("close", &[0, 1, 10, 12]),
     ("find", &[0, 1, 3, 8]),
+    ("dry run", &[0, 1, 3, 4, 8, 9]),
 ];
 
 const EVENTS: &[&str] = &[
@@ -317,14 +346,6 @@ const EVENTS: &[&str] = &[
     "store of an object stored before",
     "subtract",
     "subtract that overflows",
-    "final: outcome 0, kept",
-    "final: outcome 0, run again",
-    "final: outcome 1, kept",
-    "final: outcome 1, run again",
-    "final: outcome 2, kept",
-    "final: outcome 2, run again",
-    "final: outcome 3, kept",
-    "final: outcome 3, run again",
     "final: a new version with the old value",
     "final: an old version is held for a reader",
     "final: done without a store",
@@ -350,6 +371,12 @@ const EVENTS: &[&str] = &[
     "walk: one restarts only for one before it",
     "walk: several restart",
     "walk: some stay and the rest restart",
+    "dry run: as many objects as places",
+    "dry run: fewer objects than places",
+    "dry run: kept, and a value changes",
+    "dry run: run again, and a value changes",
+    "dry run: run again, finished but a read changed",
+    "dry run: would take the highest stamp",
     "read: an older version than the newest",
     "read: a version with an older one",
     "read: an untouched object, at a start stamp above 0 and below the reader's",
@@ -364,5 +391,6 @@ pub fn required() -> Vec<String> {
     let answers = |(call, numbers): &(&str, &[u32])| numbers.iter().map(|number| format!("{call} {number}")).collect();
     let numbers = NUMBERS.iter().flat_map::<Vec<String>, _>(answers);
     let flaws = FLAWS.iter().map(|flaw| format!("early 6: {flaw}"));
-    numbers.chain(EVENTS.iter().map(|event| event.to_string())).chain(flaws).collect()
+    let events = EVENTS.iter().map(|event| event.to_string());
+    numbers.chain(events).chain(verdicts("final")).chain(verdicts("dry run")).chain(flaws).collect()
 }

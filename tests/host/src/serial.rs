@@ -3,9 +3,9 @@
 //! operations of a final delivery) is 0.
 
 use crate::body::{decode, quotient, Operation};
-use crate::calls::{Calls, Opening};
+use crate::calls::{previewed, Calls, Opening};
 use crate::limits::{Limits, CLIENTS, LARGEST_BUDGET, REGISTERS};
-use jobstore::raw::{Committed, Executed, Found, Value};
+use jobstore::raw::{Committed, Executed, Found, Preview, Value};
 
 #[derive(Clone, Copy, PartialEq, Eq, Debug)]
 pub struct Object {
@@ -187,6 +187,12 @@ impl Calls for Serial {
 
     fn show_body(&self, client: u32, sequence: u32) -> &[u8] {
         self.place(client, sequence).map_or(&[], |place| &self.pending[place].body)
+    }
+
+    fn dry_run(&self, client: u32, sequence: u32) -> Preview {
+        let mut copy = self.clone();
+        let committed = copy.deliver_final(client, sequence);
+        previewed(committed, copy.objects.iter().map(|object| object.value))
     }
 }
 

@@ -1,7 +1,7 @@
 //! Random lists of calls: the proved library, the independent implementation and the plain table, answers and bytes.
 
-use jobstore::raw::{Committed, Executed, Value};
-use jobstore::Body;
+use jobstore::raw::{Committed, Executed, Preview, Value};
+use jobstore::{Body, PREVIEW_PLACES};
 use jobstore_tests::calls::{Answer, Call, Calls, Opening};
 use jobstore_tests::comparison::{compare_lists, Comparison};
 use jobstore_tests::independent::Independent;
@@ -55,6 +55,25 @@ fn delivers(finals: [(u32, u32); 3], table: [(i64, u32); 3]) {
     }
 }
 
+/// The dry run of the first key of a client: outcome, kept or not, the stamp, and the values of the objects.
+fn tells(all: &mut Comparison, client: u32, [outcome, kept, stamp]: [u32; 3], table: &[i64]) {
+    let mut values = [0; PREVIEW_PLACES];
+    values[..table.len()].copy_from_slice(table);
+    let preview = Preview { number: 0, outcome, kept, stamp, values };
+    answers(all, Call::DryRun { client, sequence: 1 }, Answer::Preview(Box::new(preview)));
+}
+
+/// C read early what A stored.
+#[test]
+fn dry_runs_of_the_small_depot_on_all_three() {
+    let mut all = depot();
+    tells(&mut all, 1, [0, 1, 1], &[15, 20, 30]);
+    tells(&mut all, 2, [0, 1, 1], &[10, 20, 20]);
+    tells(&mut all, 3, [0, 0, 1], &[10, 10, 30]);
+    let refused = Preview { number: 8, outcome: 0, kept: 0, stamp: 0, values: [0; PREVIEW_PLACES] };
+    answers(&mut all, Call::DryRun { client: 4, sequence: 1 }, Answer::Preview(Box::new(refused)));
+}
+
 #[test]
 fn the_small_depot_on_all_three() {
     delivers([(1, 1), (2, 1), (3, 1)], [(15, 1), (15, 3), (20, 2)]);
@@ -82,6 +101,7 @@ fn pours(litres: i64, worked: bool, [operations, outcome, stored]: Run, table: [
         answers(&mut all, Call::Work { count: 100 }, Answer::Executed(executed));
     }
     let (kept, operations) = if worked { (1, 0) } else { (0, operations) };
+    tells(&mut all, 1, [outcome, kept, START + 1], &table);
     let committed = Committed { number: 0, outcome, kept, stamp: START + 1, stored, operations };
     answers(&mut all, Call::Final { client: 1, sequence: 1 }, Answer::Committed(committed));
     answers(&mut all, Call::OpenReader { reader: 0 }, Answer::Number(0));
@@ -113,6 +133,9 @@ fn small_limits() {
         for _ in 0..100 {
             let (answer, plain) = (independent.perform(&call), serial.perform(&call));
             assert_eq!(answer.seen(), plain, "seed {}: {call:?}", seed().wrapping_add(list));
+            if let Answer::Preview(preview) = &answer {
+                assert_eq!(preview.values[SMALL.objects..], [0; PREVIEW_PLACES - SMALL.objects]);
+            }
             let state = independent.state.as_ref().unwrap();
             let (record, bodies) = print(SMALL, state);
             assert_eq!(parse(SMALL, &record, &bodies).as_ref(), Ok(state));

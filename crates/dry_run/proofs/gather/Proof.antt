@@ -49,7 +49,7 @@ mul-place : tie.Need-mul-place Inv-loop μ-loop
 mul-place c = omega (arith, low c)
 
 element-copy-out-place : tie.Need-element-copy-out-place Inv-loop μ-loop
-element-copy-out-place c = low c
+element-copy-out-place c = omega (arith, low c)
 
 get-signed-requires : tie.Need-get-signed-requires Inv-loop μ-loop
 get-signed-requires c κs =

@@ -3,7 +3,7 @@ use mathlib.Core.Path.{refl}
 use native.Mathlib.Omega.{arith}
 use borrow.Author.Needs.{needs}
 use Rattle.final_admission.specs.NextTimestamp.{timestamp-left}
-use Rattle.final_decision.specs.Found.{found-laid, found-deciding, outcome-small, stored-few}
+use Rattle.final_decision.specs.FoundAt.{found-laid, found-deciding, outcome-small, stored-few}
 use Rattle.dry_run.specs.Values.{all-zero}
 use Rattle.dry_run.specs.Foreseen.{places-inside, writes-placed, foreseen}
 use Rattle.dry_run.proofs.preview_at.Statement.{statement}

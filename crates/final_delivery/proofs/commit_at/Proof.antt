@@ -3,7 +3,7 @@ use mathlib.Core.Path.{refl}
 use native.Mathlib.Omega.{arith}
 use borrow.Author.Needs.{needs}
 use Rattle.final_admission.specs.NextTimestamp.{timestamp-left}
-use Rattle.final_decision.specs.Found.{found-laid, found-deciding, outcome-small, stored-few, operations-few}
+use Rattle.final_decision.specs.FoundAt.{found-laid, found-deciding, outcome-small, stored-few, operations-few}
 use Rattle.final_delivery.specs.Commit.{found-few, found-publishing, found-marking, found-paired, found-walking, found-done}
 use Rattle.final_delivery.proofs.commit_at.Statement.{statement}
 use Rattle.final_delivery.proofs.commit_at.Tie as tie

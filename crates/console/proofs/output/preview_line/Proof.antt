@@ -72,7 +72,8 @@ returns c =
     let start = c .before .before in
     let whole-line = take-all (4 + l .i) (l .line) (omega arith) in
     let all-values = take-all (l .i) (start .args .t5) (omega arith) in
-    sym whole-line ∙ rw (l .inv .2, all-values, toZ-ofZ (start .fits .number), toZ-ofZ (start .fits .outcome), toZ-ofZ (start .fits .kept), toZ-ofZ (start .fits .stamp)) refl
+    let fits = start .fits in
+    sym whole-line ∙ rw (l .inv .2, all-values, toZ-ofZ (fits .number), toZ-ofZ (fits .outcome), toZ-ofZ (fits .kept), toZ-ofZ (fits .stamp))
 
 pub preview-line-spec : {M : Type 1} → statement M
 preview-line-spec =

@@ -15,11 +15,11 @@ use jobstore_tests::library::Library;
 use jobstore_tests::limits::STANDARD;
 use jobstore_tests::workload::{LOWER, UPPER};
 use rotation::Rotation;
-use stages::{Measured, Stage, CALLS, CLOSES, EARLY, FINAL, FIND, READ, WORK};
+use stages::{Measured, Stage, CALLS, CLOSES, DRY_RUN, EARLY, FINAL, FIND, READ, WORK};
 
 const PASSES: usize = 60;
 
-/// What read and find, early delivery, work, final delivery and close are to cost, in scans.
+/// What read and find, early delivery, work, final delivery and dry run, and close are to cost, in scans.
 type Aims = Option<[f64; 5]>;
 
 const STAGES: [(Stage, Aims); 6] = [
@@ -63,7 +63,9 @@ impl Pair {
 /// Of the three closes the dearest.
 fn print_aims(title: &str, pairs: &[Pair], scan: f64) {
     println!("{title}");
-    println!("{:<38} {:>6} {:>6} {:>6} {:>6} {:>6} {:>6}", "", "read", "find", "early", "work", "final", "close");
+    print!("{:<38}", "");
+    ["read", "find", "early", "work", "final", "dry", "close"].iter().for_each(|call| print!(" {call:>6}"));
+    println!();
     let line = |name: &str, figures: &[f64]| {
         print!("{name:<38}");
         figures.iter().for_each(|figure| print!(" {figure:>6.2}"));
@@ -71,12 +73,13 @@ fn print_aims(title: &str, pairs: &[Pair], scan: f64) {
     };
     let scans = |figures: Vec<f64>| {
         let close = CLOSES.iter().map(|&call| figures[call]).fold(0.0, f64::max);
-        [figures[READ], figures[FIND], figures[EARLY], figures[WORK], figures[FINAL], close].map(|time| time / scan)
+        let [read, find, early, work, last, dry] = [READ, FIND, EARLY, WORK, FINAL, DRY_RUN].map(|call| figures[call]);
+        [read, find, early, work, last, dry, close].map(|time| time / scan)
     };
     for pair in pairs {
         line(&pair.name(), &scans(pair.library.figures()));
-        if let Some(aims) = pair.aims {
-            line("  aim", &[&aims[..1], &aims[..]].concat());
+        if let Some([look, early, work, last, close]) = pair.aims {
+            line("  aim", &[look, look, early, work, last, last, close]);
         }
         line("  independent implementation", &scans(pair.independent.figures()));
     }

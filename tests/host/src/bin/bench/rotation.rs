@@ -12,7 +12,7 @@ const REPLICAS: u64 = 12;
 const TURNS: usize = 8;
 
 /// The order of the figures; the last is the scan.
-const CALLS: [&str; 6] = ["read", "find", "early", "work", "final", "close"];
+const CALLS: [&str; 7] = ["read", "find", "early", "work", "final", "dry", "close"];
 const SCAN: usize = CALLS.len();
 
 pub struct Rotation {
@@ -46,17 +46,15 @@ impl Rotation {
         let newest = self.stage.newest();
         let mut open = stores.to_vec();
         open.iter_mut().for_each(|store| assert!([0, 11].contains(&store.open_reader(newest))));
-        let find = |index: usize, store: &mut Library| {
-            let pending = turns[index].delivered;
-            store.find(pending.client, pending.sequence).number
-        };
+        let key = |index: usize| turns[index].delivered;
         let read = by_turns(&mut open, |_, store| store.read(newest, 16 * turn as u32).number);
-        let found = by_turns(&mut open, find);
+        let found = by_turns(&mut open, |index, store| store.find(key(index).client, key(index).sequence).number);
+        let tried = by_turns(&mut open, |index, store| store.dry_run(key(index).client, key(index).sequence).number);
         let scanned = by_turns(&mut open, |_, store| u32::from(black_box(scan(store)) == 0));
         let closed = by_turns(&mut open, |_, store| store.close_reader(self.stage.closed()[turn % 3]));
         let figures = |index: usize| {
             let [early, work, last] = taken[index];
-            [read[index], found[index], early, work, last, closed[index], scanned[index]]
+            [read[index], found[index], early, work, last, tried[index], closed[index], scanned[index]]
         };
         (0..stores.len()).flat_map(figures).collect()
     }

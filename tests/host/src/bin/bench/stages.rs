@@ -58,10 +58,11 @@ fn versions(areas: &Library) -> f64 {
 }
 
 /// What is measured of a stage: single calls where it begins, then the calls of its turns.
-pub const CALLS: [&str; 12] = [
+pub const CALLS: [&str; 13] = [
     "read",
     "find",
     "show body",
+    "dry run",
     "work, nothing left",
     "open",
     "open reader",
@@ -74,10 +75,11 @@ pub const CALLS: [&str; 12] = [
 ];
 pub const READ: usize = 0;
 pub const FIND: usize = 1;
-pub const CLOSES: [usize; 3] = [6, 7, 8];
-pub const EARLY: usize = 9;
-pub const WORK: usize = 10;
-pub const FINAL: usize = 11;
+pub const DRY_RUN: usize = 3;
+pub const CLOSES: [usize; 3] = [7, 8, 9];
+pub const EARLY: usize = 10;
+pub const WORK: usize = 11;
+pub const FINAL: usize = 12;
 
 /// One implementation at a stage.
 pub struct Measured<C> {
@@ -127,6 +129,7 @@ impl<C: Calls + Clone> Measured<C> {
             batched(|index| open.read(newest, 8 * index as u32)),
             batched(|index| start.find(self.key(index).client, self.key(index).sequence)),
             batched(|index| start.show_body(self.key(index).client, self.key(index).sequence).len()),
+            batched(|index| start.dry_run(self.key(index).client, self.key(index).sequence)),
             batched(|_| copy.work(LARGEST_BUDGET)),
             batched(|_| turns::open(&mut copy, &self.plan.opening)),
             each_time_on(&without, |store| store.open_reader(newest)),
