@@ -1,8 +1,8 @@
 /* One replica ("unit") of the job store, in two areas that the caller lends.
  *
- * Link with libjobstore, static or shared (pkg-config: jobstore). It needs memmove and memset alone. The library allocates
- * nothing, keeps no pointer and has no static data, so replicas in different areas may be used by different threads at the
- * same time; on one replica calls come one after another, those aside that change nothing (docs/HOSTING.md).
+ * Link with libjobstore, static or shared (pkg-config: jobstore). It needs memcpy, memmove and memset alone. The library
+ * allocates nothing, keeps no pointer and has no static data, so replicas in different areas may be used by different
+ * threads at the same time; on one replica calls come one after another, those aside that change nothing (docs/HOSTING.md).
  *
  * Every call takes the record area and then the body area, each as a pointer and a length in bytes, and then its own
  * arguments. The right lengths are JOBSTORE_RECORD_LENGTH and JOBSTORE_BODIES_LENGTH; the areas need no alignment. What
