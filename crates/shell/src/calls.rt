@@ -7,7 +7,6 @@ use console::arguments::ValueList;
 use console::faults::Fault;
 use console::faults::List;
 use console::faults::Name;
-use console::output;
 use model::Delivery;
 use model::Finding;
 use model::Preview;
@@ -85,7 +84,7 @@ fn open_into(
                     let low = first(lower, l);
                     let high = first(upper, u);
                     let r: Reply = replica::open(records, bodies, n, taken, low, high, stamp);
-                    Answer::Line(output::put_reply(out, r))
+                    Answer::Line(console_answers::put_reply(out, r))
                 }
                 Counts::Wrong(fault) => Answer::Wrong(fault),
             }
@@ -150,7 +149,7 @@ fn early_into(
             if words::ended(line, to) {
                 let b = buffer::front(body, n);
                 let r: Reply = replica::deliver_optimistic(records, bodies, client, sequence, b);
-                Answer::Line(output::put_reply(out, r))
+                Answer::Line(console_answers::put_reply(out, r))
             } else {
                 Answer::Wrong(Fault::TooManyWords)
             }
@@ -176,7 +175,10 @@ pub fn early(
 pub fn work(records: &mut [u8], bodies: &[u8], line: &[u8], at: usize, out: &mut [u8]) -> Answer {
     match arguments::last_number(line, at, Name::Count) {
         Single::Is(count, _) => {
-            Answer::Line(output::put_execution(out, replica::execute(records, bodies, count)))
+            Answer::Line(console_answers::put_execution(
+                out,
+                replica::execute(records, bodies, count),
+            ))
         }
         Single::Wrong(fault) => Answer::Wrong(fault),
     }
@@ -193,7 +195,7 @@ pub fn final_delivery(
     match arguments::last_two_numbers(line, at, Name::Client, Name::Sequence) {
         Pair::Are(client, sequence, _) => {
             let r: Delivery = replica::deliver_final(records, bodies, client, sequence);
-            Answer::Line(output::put_delivery(out, r))
+            Answer::Line(console_answers::put_delivery(out, r))
         }
         Pair::Wrong(fault) => Answer::Wrong(fault),
     }
@@ -203,7 +205,7 @@ pub fn final_delivery(
 pub fn reader(records: &mut [u8], bodies: &[u8], line: &[u8], at: usize, out: &mut [u8]) -> Answer {
     match arguments::last_number(line, at, Name::Reader) {
         Single::Is(r, _) => {
-            Answer::Line(output::put_reply(out, replica::open_reader(records, bodies, r)))
+            Answer::Line(console_answers::put_reply(out, replica::open_reader(records, bodies, r)))
         }
         Single::Wrong(fault) => Answer::Wrong(fault),
     }
@@ -213,7 +215,10 @@ pub fn reader(records: &mut [u8], bodies: &[u8], line: &[u8], at: usize, out: &m
 pub fn read(records: &[u8], bodies: &[u8], line: &[u8], at: usize, out: &mut [u8]) -> Answer {
     match arguments::last_two_numbers(line, at, Name::Reader, Name::Object) {
         Pair::Are(r, object, _) => {
-            Answer::Line(output::put_reading(out, replica::read(records, bodies, r, object)))
+            Answer::Line(console_answers::put_reading(
+                out,
+                replica::read(records, bodies, r, object),
+            ))
         }
         Pair::Wrong(fault) => Answer::Wrong(fault),
     }
@@ -223,7 +228,7 @@ pub fn read(records: &[u8], bodies: &[u8], line: &[u8], at: usize, out: &mut [u8
 pub fn close(records: &mut [u8], bodies: &[u8], line: &[u8], at: usize, out: &mut [u8]) -> Answer {
     match arguments::last_number(line, at, Name::Reader) {
         Single::Is(r, _) => {
-            Answer::Line(output::put_reply(out, replica::close_reader(records, bodies, r)))
+            Answer::Line(console_answers::put_reply(out, replica::close_reader(records, bodies, r)))
         }
         Single::Wrong(fault) => Answer::Wrong(fault),
     }
@@ -234,7 +239,7 @@ pub fn find(records: &[u8], bodies: &[u8], line: &[u8], at: usize, out: &mut [u8
     match arguments::last_two_numbers(line, at, Name::Client, Name::Sequence) {
         Pair::Are(client, sequence, _) => {
             let r: Finding = replica::find(records, bodies, client, sequence);
-            Answer::Line(output::put_finding(out, r))
+            Answer::Line(console_answers::put_finding(out, r))
         }
         Pair::Wrong(fault) => Answer::Wrong(fault),
     }
@@ -256,7 +261,7 @@ pub fn dry(records: &[u8], bodies: &[u8], line: &[u8], at: usize, out: &mut [u8]
     match arguments::last_two_numbers(line, at, Name::Client, Name::Sequence) {
         Pair::Are(client, sequence, _) => {
             let r: Preview = replica::dry_run(records, bodies, client, sequence);
-            Answer::Line(output::put_preview(out, r))
+            Answer::Line(console_answers::put_preview(out, r))
         }
         Pair::Wrong(fault) => Answer::Wrong(fault),
     }

@@ -1,13 +1,19 @@
--- `console::output::put_reply` prints the numbers of the answer. Assumes nothing.
+-- `console_answers::put_execution` prints the numbers of the answer. Assumes nothing.
 use native.Mathlib.Omega.{arith}
 use Rattle.model.specs.Calls.{numbers}
-use Rattle.console.specs.Output.{as-signed}
+use Rattle.console_answers.specs.Output.{as-signed}
 use borrow.Author.Needs.{needs}
-use Rattle.console.proofs.output.put_reply.Statement.{statement}
-use Rattle.console.proofs.output.put_reply.Tie as tie
+use Rattle.console_answers.proofs.put_execution.Statement.{statement}
+use Rattle.console_answers.proofs.put_execution.Tie as tie
 
-enum-told : tie.Need-enum-told
-enum-told c = search needs
+enum-known-r : tie.Need-enum-known-r
+enum-known-r c = search needs
+
+cast-t10 : tie.Need-cast-t10
+cast-t10 c = search needs
+
+cast-t11 : tie.Need-cast-t11
+cast-t11 c = search needs
 
 slice-aggregate-put-numbers : tie.Need-slice-aggregate-put-numbers
 slice-aggregate-put-numbers c = search needs
@@ -15,11 +21,11 @@ slice-aggregate-put-numbers c = search needs
 put-numbers-requires : tie.Need-put-numbers-requires
 put-numbers-requires c κs = search needs
 
-enum-known-r : tie.Need-enum-known-r
-enum-known-r c = search needs
+enum-known-r-2 : tie.Need-enum-known-r-2
+enum-known-r-2 c = search needs
 
-cast-t13 : tie.Need-cast-t13
-cast-t13 c = search needs
+cast-t17 : tie.Need-cast-t17
+cast-t17 c = search needs
 
 slice-aggregate-put-numbers-2 : tie.Need-slice-aggregate-put-numbers-2
 slice-aggregate-put-numbers-2 c = search needs
@@ -34,7 +40,9 @@ returns : tie.Need-returns
 unfolding numbers
 returns c =
     let at-put = c .before .before in
-    rw (at-put .before .before .before .enum-told .given .1) (at-put .put-numbers .ensures)
+    let at-arm = at-put .before .before .before .before in
+    let n = at-arm .r .given .0 in
+    rw (at-arm .r .given .1, as-signed (n .0) (omega arith), as-signed (n .1 .0) (omega arith)) (at-put .put-numbers .ensures)
 
 same-length-2 : tie.Need-same-length-2
 same-length-2 c = search needs
@@ -44,17 +52,19 @@ unfolding numbers
 returns-2 c =
     let at-put = c .before .before in
     let at-arm = at-put .before .before .before .before in
-    rw (at-arm .r .given .1, as-signed (at-arm .r .given .0 .0) (omega arith)) (at-put .put-numbers2 .ensures)
+    rw (at-arm .r2 .given .1, as-signed (at-arm .r2 .given .0 .0) (omega arith)) (at-put .put-numbers2 .ensures)
 
-pub put-reply-spec : {M : Type 1} → statement M
-put-reply-spec =
+pub put-execution-spec : {M : Type 1} → statement M
+put-execution-spec =
     tie.close
     (tie.spec
-    enum-told
+    enum-known-r
+    cast-t10
+    cast-t11
     slice-aggregate-put-numbers
     put-numbers-requires
-    enum-known-r
-    cast-t13
+    enum-known-r-2
+    cast-t17
     slice-aggregate-put-numbers-2
     put-numbers-requires-2
     same-length

@@ -1,4 +1,4 @@
--- `console::output::preview_line` meets its contract. The loop's invariant: the four numbers and the first i values stand at the line's start.
+-- `console_answers::preview_line` meets its contract. The loop's invariant: the four numbers and the first i values stand at the line's start.
 -- The measure is how many values are left. Assumes nothing.
 use Prim.Native.Nat.{_+_, _-_, _≤_}
 use mathlib.Core.Path.{_≡_, refl, sym, _∙_}
@@ -11,9 +11,9 @@ use mir.Syntax.{w64}
 use mir.Val.{toZ, ofZ}
 use mir.Facts.{toZ-ofZ}
 use borrow.Author.Needs.{needs}
-use Rattle.console.specs.Output.{next-value}
-use Rattle.console.proofs.output.preview_line.Statement.{statement}
-use Rattle.console.proofs.output.preview_line.Tie as tie
+use Rattle.console_answers.specs.Output.{next-value}
+use Rattle.console_answers.proofs.preview_line.Statement.{statement}
+use Rattle.console_answers.proofs.preview_line.Tie as tie
 
 abbrev Inv-loop : tie.InvT-loop
 Inv-loop number outcome kept stamp values line₀ i₀ line i =

@@ -1,10 +1,10 @@
--- `console::output::put_delivery` prints the numbers of the answer. Assumes nothing.
+-- `console_answers::put_delivery` prints the numbers of the answer. Assumes nothing.
 use native.Mathlib.Omega.{arith}
 use Rattle.model.specs.Calls.{numbers}
-use Rattle.console.specs.Output.{as-signed}
+use Rattle.console_answers.specs.Output.{as-signed}
 use borrow.Author.Needs.{needs}
-use Rattle.console.proofs.output.put_delivery.Statement.{statement}
-use Rattle.console.proofs.output.put_delivery.Tie as tie
+use Rattle.console_answers.proofs.put_delivery.Statement.{statement}
+use Rattle.console_answers.proofs.put_delivery.Tie as tie
 
 enum-known-r : tie.Need-enum-known-r
 enum-known-r c = search needs

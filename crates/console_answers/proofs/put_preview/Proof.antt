@@ -1,10 +1,10 @@
--- `console::output::put_preview` prints the numbers of the answer. Assumes nothing.
+-- `console_answers::put_preview` prints the numbers of the answer. Assumes nothing.
 use native.Mathlib.Omega.{arith}
 use Rattle.model.specs.Calls.{numbers, preview-places}
-use Rattle.console.specs.Output.{as-signed, flag-signed}
+use Rattle.console_answers.specs.Output.{as-signed, flag-signed}
 use borrow.Author.Needs.{needs}
-use Rattle.console.proofs.output.put_preview.Statement.{statement}
-use Rattle.console.proofs.output.put_preview.Tie as tie
+use Rattle.console_answers.proofs.put_preview.Statement.{statement}
+use Rattle.console_answers.proofs.put_preview.Tie as tie
 
 enum-known-answer : tie.Need-enum-known-answer
 enum-known-answer c = search needs
