@@ -3,7 +3,7 @@ use mathlib.Core.Path.{_≡_, refl, sym, ap, _∙_, subst}
 use mathlib.Core.Bool.{Bool, true, false}
 use mathlib.Core.Option.{Option·getD}
 use mathlib.Core.List.{List, [], map}
-use Prim.Native.Nat.{ℕ, suc, _≤_, _<_}
+use Prim.Native.Nat.{ℕ, suc, _≤_}
 use native.Mathlib.Omega.{arith}
 use lib.IntN.{ℤ, pos}
 use lib.Dec.{ltb}
@@ -16,17 +16,16 @@ use Rattle.execution.specs.RunShape.{every, sound}
 use Rattle.execution.specs.Arrays.{entries}
 use Rattle.model.specs.declared.Limits.{Limits}
 use Rattle.model.specs.declared.Preview.{Preview}
-use Rattle.model.specs.Calls.{Answer, previewed, preview-places}
+use Rattle.model.specs.Calls.{previewed, preview-places}
 use Rattle.model.specs.Answers.{preview}
 use Rattle.model.specs.Start.{Version}
 use Rattle.model.specs.DryRun.{placed, preview-of}
 use Rattle.model.specs.PreviewLaws.{placed-all, sound-wider, held-after}
 use Rattle.model.specs.Interface as interface
-use Rattle.model.specs.Replica.{Pending, Replica, newest, opens, install, committed-table, validated, result, commit}
+use Rattle.model.specs.Replica.{Replica, newest, opens, install, committed-table, commit}
 use Rattle.layout.specs.Offsets.{Sane, size-at}
 use Rattle.layout.specs.Reading.{get-size}
 use Rattle.final_admission.specs.NextTimestamp.{NextAfter, next-timestamp}
-use Rattle.final_commit.specs.Positions.{at}
 use Rattle.final_walk.specs.Places.{Inside, Placed, placed-inside, placed-table}
 use Rattle.final_decision.specs.declared.Decision.{Decision}
 use Rattle.final_decision.specs.Decide.{Local, Decides, some-version}

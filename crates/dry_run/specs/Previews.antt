@@ -1,5 +1,5 @@
 -- What a dry run promises. Assumes nothing.
-use mathlib.Core.Path.{_≡_, refl, sym, ap, _∙_}
+use mathlib.Core.Path.{_≡_, refl, sym, _∙_}
 use Prim.Native.Nat.{ℕ}
 use native.Mathlib.Omega.{arith}
 use lib.IntN.{pos}
@@ -8,7 +8,7 @@ use Rattle.model.specs.declared.Limits.{Limits}
 use Rattle.model.specs.declared.Previewing as previewings
 use Rattle.model.specs.declared.Preview.{Preview}
 use Rattle.model.specs.Interface as interface
-use Rattle.model.specs.Calls.{dry-run, Answer, refused, yielded, preview-places}
+use Rattle.model.specs.Calls.{dry-run, refused, yielded, preview-places}
 use Rattle.model.specs.Answers.{preview}
 use Rattle.layout.specs.Layout.{Areas}
 use Rattle.layout.specs.Contract.{Met}

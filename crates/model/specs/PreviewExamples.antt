@@ -1,8 +1,8 @@
 -- Computed examples of a dry run: what it shows of a final delivery, on the replica and on the serial table. Both sides share `preview-of`, so no theorem
 -- catches a slip in it. The numbers of an answer are different. Assumes nothing.
 use mathlib.Core.Path.{_≡_, refl}
-use mathlib.Core.Bool.{Bool, true, false}
-use mathlib.Core.List.{List, [], _∷_, _++_, map}
+use mathlib.Core.Bool.{true, false}
+use mathlib.Core.List.{List, [], _∷_, map}
 use Prim.Native.Nat.{ℕ}
 use lib.IntN.{ℤ, pos, negsuc}
 use lib.ListN.{replicate}
