@@ -12,6 +12,7 @@ use Rattle.model.specs.Start.{Start, start-of}
 use Rattle.model.specs.DryRun.{preview-of}
 use Rattle.model.specs.Replica.{Replica, newest, facts, delivered, opened, perform, call, calls}
 use Rattle.model.specs.VersionLaws.{Dated}
+use Rattle.model.specs.Refusals.{dry-run-judged}
 use Rattle.model.specs.ShapeCheck.{shaped}
 use Rattle.model.specs.ShapeKept.{call-shaped}
 use Rattle.model.specs.Replicas as states
@@ -46,11 +47,6 @@ module _ (l : Limits) (sane : Sane l) (c s : ℕ) (a : Areas) where
   abbrev u : Replica
   u = parse l a
 
-  -- it is refused where the final delivery is, with the same number
-  refused-alike : refusal l (facts u) (dry-run c s) ≡ refusal l (facts u) (final c s)
-  unfolding refusal causes
-  refused-alike = refl
-
   -- the areas after an accepted final delivery say the replica after it
   after : fit l a ≡ true → refusal l (facts u) (final c s) ≡ 0 → parse l (print l (delivered u c s .1)) ≡ delivered u c s .1
   unfolding call perform
@@ -65,9 +61,9 @@ module _ (l : Limits) (sane : Sane l) (c s : ℕ) (a : Areas) where
       by : (b : Bool) (k : ℕ) → fit l a ≡ b → refusal l (facts u) (final c s) ≡ k
           → act l (dry-run c s) a .0 ≡ previewed-as (act l (final c s) a .0) (newest-on l (act l (final c s) a .1))
       by false k f r = rw (act-unfit l (dry-run c s) a f, act-unfit l (final c s) a f)
-      by true (suc k) f r = rw (act-refused l (dry-run c s) a k f (refused-alike ∙ r), act-refused l (final c s) a k f r)
+      by true (suc k) f r = rw (act-refused l (dry-run c s) a k f (dry-run-judged l (facts u) c s ∙ r), act-refused l (final c s) a k f r)
       by true zero f r =
-          rw (act-accepted l (dry-run c s) a f (refused-alike ∙ r), act-accepted l (final c s) a f r)
+          rw (act-accepted l (dry-run c s) a f (dry-run-judged l (facts u) c s ∙ r), act-accepted l (final c s) a f r)
           (ap (λ (v : Replica). yielded (observed (previewed (preview-of (delivered u c s .0) (map newest (v .objects)))))) (sym (after f r)))
 
   pub dry-run-on-areas : Below 256 (a .0) → DoneAside l c s a

@@ -1,11 +1,12 @@
 -- The dry run on areas that pass the shape check: the refusal, or what the transaction found would come to. Assumes nothing.
-use mathlib.Core.Path.{_≡_, refl, sym, ap, _∙_}
+use mathlib.Core.Path.{_≡_, sym, ap, _∙_}
 use Prim.Native.Nat.{ℕ}
 use Rattle.model.specs.declared.Limits.{Limits}
 use Rattle.model.specs.declared.Preview.{Preview}
 use Rattle.model.specs.Interface as interface
-use Rattle.model.specs.Calls.{final, dry-run, Query, Answer, Yield, yielded, causes, refusal}
+use Rattle.model.specs.Calls.{dry-run, Query, Answer, Yield, yielded}
 use Rattle.model.specs.Replica.{Pending, Replica, committed-table, validated, result, rework, commit, facts, perform}
+use Rattle.model.specs.Refusals.{dry-run-judged}
 use Rattle.layout.specs.Layout.{Areas, parse}
 use Rattle.layout.specs.Act.{act}
 use Rattle.layout.specs.Areas.{act-accepted}
@@ -20,13 +21,8 @@ module _ {l : Limits} {a : Areas} (q : Shaped l a) where
   u = parse l a
 
   module _ (c s : ℕ) where
-    -- it is judged as the final delivery is
-    judged-alike : refusal l (facts u) (dry-run c s) ≡ refusal l (facts u) (final c s)
-    unfolding refusal causes
-    judged-alike = refl
-
     pub tried-refused : {k : ℕ} {r : Preview} → Turned l u c s k → r ≡ turned-back k → Previews l c s a r
-    tried-refused {k} f e = previews-refused e (met-turned (dry-run c s) (q .fits) judged-alike k f)
+    tried-refused {k} f e = previews-refused e (met-turned (dry-run c s) (q .fits) (dry-run-judged l (facts u) c s) k f)
 
     -- the transaction at position i is found
     module _ {i : ℕ} (f : Admitted l u c s i) where
@@ -42,7 +38,7 @@ module _ {l : Limits} {a : Areas} (q : Shaped l a) where
       unfolding perform shown
       accepted =
           sym
-          (ap (λ (w : Answer × Areas). w .0) (act-accepted l (dry-run c s) a (q .fits) (judged-alike ∙ f .accepted))
+          (ap (λ (w : Answer × Areas). w .0) (act-accepted l (dry-run c s) a (q .fits) (dry-run-judged l (facts u) c s ∙ f .accepted))
           ∙ ap (λ (j : Pending). yielded (shown j)) (admitted-keyed f))
 
       pub tried-accepted : {r : Preview} → Foresees l (a .0) (a .1) i r → Previews l c s a r
