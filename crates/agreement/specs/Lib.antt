@@ -4,6 +4,7 @@ pub mod Agreement
 pub mod Lookups
 pub mod CeilingOnAreas
 pub mod DryRunOnAreas
+pub mod ExchangeOnAreas
 pub mod CasesOnAreas
 pub mod TwoKinds
 pub mod ContractTrace

@@ -88,7 +88,7 @@ module _ (l : Limits) where
   module _ (u : Replica) (v : Invariant l u) where
     -- ---- a final delivery
 
-    keyed-somewhere : (c s : ℕ) → Somewhere (committed-table u) (keyed u c s)
+    pub keyed-somewhere : (c s : ℕ) → Somewhere (committed-table u) (keyed u c s)
     unfolding steps
     keyed-somewhere c s =
         picked-all (Somewhere (committed-table u)) (has-key c s) (u .pending) (committed-table u, refl, (0, refl)) (chain-somewhere (committed-table u) (committed-table u) refl (u .pending) (v .early))

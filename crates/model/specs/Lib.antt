@@ -34,6 +34,9 @@ pub mod ShapeBounds
 pub mod ShapeParts
 pub mod ShapeKept
 pub mod Ceiling
+pub mod Exchange
+pub mod Reordering
+pub mod ExchangeLaws
 pub mod Computing
 pub mod Cases
 pub mod CallExamples

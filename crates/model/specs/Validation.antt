@@ -31,7 +31,7 @@ module _ (S : Table) (b : List Operation) where
   apply-matches (go g k) p h = h
   apply-matches (halt s) p h = h
 
-  steps-match : (k : ℕ) → matches S (steps S b k start .reads) ≡ true
+  pub steps-match : (k : ℕ) → matches S (steps S b k start .reads) ≡ true
   unfolding steps step obey start
   steps-match zero = refl
   steps-match (suc k) = go′ (due b (steps S b k start)) (steps-match k)

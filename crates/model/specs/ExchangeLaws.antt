@@ -1,0 +1,406 @@
+-- Deliveries that are apart pair by pair, in any order: each gives what its run on the table before them gives, and the newest values after them are the
+-- same. The pair that changes places is the list of two. Assumes nothing.
+use mathlib.Core.Path.{_≡_, refl, sym, ap, ap₂, _∙_, subst, fun-ext}
+use mathlib.Core.Logic.{_⊎_, inl, inr}
+use mathlib.Core.Bool.{Bool, true, false, not, cond, _&&_, _||_, false≢true, true≢false}
+use mathlib.Core.Option.{Option, none, some, Option·getD, Option·none-ne-some, Option·some-injective}
+use mathlib.Core.List.{List, [], _∷_, map, map-map, List·Permᴰ·nil, List·Permᴰ·cons, List·Permᴰ·swap, List·Permᴰ·trans}
+use Prim.Native.Nat.{ℕ, zero, suc, _+_, _≤_, _<_}
+use native.Mathlib.Omega.{arith}
+use lib.IntN.{ℤ, pos}
+use lib.Dec.{eqb, leb}
+use lib.ListN.{length, getD, List·getD-map}
+use borrow.Author.Tests.{eq-eqb, eqb-true, eqb-false, ne-eqb, leb-true, lt-leb, not-true, not-false}
+use Rattle.arith.specs.Integer.{eq-z}
+use Rattle.operation.specs.Body.{operations}
+use Rattle.operation.specs.declared.Operation.{Operation}
+use Rattle.execution.specs.Entries.{Entry, lookup}
+use Rattle.execution.specs.Run.{Table, Run, or-else, whole, matches}
+use Rattle.execution.specs.ReadAgreement.{both, whole-agree}
+use Rattle.model.specs.declared.Limits.{Limits}
+use Rattle.model.specs.Lists.{pick, keep, any, all, mapi}
+use Rattle.model.specs.Interface.{Answer, yielded, committed}
+use Rattle.model.specs.Calls.{Transaction, is-key, leaves, bytes-of, clients, spent, last-timestamp, causes, refusal, judged}
+use Rattle.model.specs.Start.{Version}
+use Rattle.model.specs.Serial.{is-some}
+use Rattle.model.specs.Replica.{Pending, Replica, newest, opens, prune, pushed, install, committed-table, program, walk, keyed, stays, result, facts, commit, delivered, perform, call, calls}
+use Rattle.model.specs.ListLaws.{All, all-implies, all-both, any-map, map-all, map-keep, map-mapi, pick-keep}
+use Rattle.model.specs.Tests.{neither, any-pick, pick-passes}
+use Rattle.model.specs.VersionLaws.{newest-prune}
+use Rattle.model.specs.EarlyResults.{sents, walk-sents, result-whole}
+use Rattle.model.specs.Invariant.{Invariant, call-invariant}
+use Rattle.model.specs.Correspondence.{picked-bytes, keyed-somewhere}
+use Rattle.model.specs.Validation.{steps-match}
+use Rattle.model.specs.Shape.{Unspent, Shape}
+use Rattle.model.specs.ShapeKept.{call-shape}
+use Rattle.model.specs.Exchange.{Key, deliver, deliveries, disjoint, apart, alone, may-pass, is-pending, pairwise, exchangeable, same-answer, answer-of, newest-values}
+use Rattle.model.specs.Reordering.{Permutation, Pairwise, length-reordered, all-reordered, pairwise-reordered, pairwise-implies}
+
+-- ---- sets with no object in common
+
+abbrev Disjoint : List Entry → List Entry → Type 0
+Disjoint xs ys = (o : ℕ) → (lookup xs o ≡ none) ⊎ (lookup ys o ≡ none)
+
+disjoint-says : (xs ys : List Entry) → disjoint xs ys ≡ true → Disjoint xs ys
+unfolding disjoint
+disjoint-says xs ys e o = by (lookup ys o) refl
+  where
+    in-both : Entry → Bool
+    in-both x = is-some (lookup ys (x .object))
+
+    absent : (l : List Entry) → any in-both l ≡ false → is-some (lookup ys o) ≡ true → lookup l o ≡ none
+    absent [] h s = refl
+    absent (x ∷ l) h s =
+        let k = neither (in-both x) (any in-both l) h in
+        rw (ne-eqb (x .object) o (λ q. false≢true (sym (k .0) ∙ ap (λ (i : ℕ). is-some (lookup ys i)) q ∙ s))) (absent l (k .1) s)
+
+    by : (k : Option ℤ) → lookup ys o ≡ k → (lookup xs o ≡ none) ⊎ (lookup ys o ≡ none)
+    by none q = inr q
+    by (some v) q = inl (absent xs (not-true (any in-both xs) e) (ap is-some q))
+
+disjoint-sym : (xs ys : List Entry) → Disjoint xs ys → Disjoint ys xs
+disjoint-sym xs ys h o = by (h o)
+  where
+    by : (lookup xs o ≡ none) ⊎ (lookup ys o ≡ none) → (lookup ys o ≡ none) ⊎ (lookup xs o ≡ none)
+    by (inl e) = inr e
+    by (inr e) = inl e
+
+-- an object of the one is none of the other
+not-in : (xs ys : List Entry) → Disjoint xs ys → (o : ℕ) → is-some (lookup ys o) ≡ true → lookup xs o ≡ none
+not-in xs ys h o s = by (h o)
+  where
+    by : (lookup xs o ≡ none) ⊎ (lookup ys o ≡ none) → lookup xs o ≡ none
+    by (inl e) = e
+    by (inr e) = absurd (false≢true (sym (ap is-some e) ∙ s))
+
+-- ---- the condition as facts
+
+record MayPass (u : Replica) (j k : Key) : Type 0 where
+  clients-differ : j .client ≡ k .client → ⊥
+  stored-read : Disjoint (alone u j .writes) (alone u k .reads)
+  read-stored : Disjoint (alone u k .writes) (alone u j .reads)
+  stored : Disjoint (alone u j .writes) (alone u k .writes)
+
+record Exchangeable (u : Replica) (ks : List Key) : Type 0 where
+  timestamps : u .timestamp + length ks ≤ last-timestamp
+  pending : All (λ k. is-pending u k ≡ true) ks
+  passing : Pairwise (MayPass u) ks
+
+may-pass-sym : (u : Replica) (j k : Key) → MayPass u j k → MayPass u k j
+may-pass-sym u j k h =
+    record {
+      clients-differ = λ e. h .clients-differ (sym e);
+      stored-read = h .read-stored;
+      read-stored = h .stored-read;
+      stored = disjoint-sym (alone u j .writes) (alone u k .writes) (h .stored);
+    }
+
+may-pass-says : (u : Replica) (j k : Key) → may-pass u j k ≡ true → MayPass u j k
+unfolding may-pass apart
+may-pass-says u j k e =
+    let p = alone u j in
+    let q = alone u k in
+    let (differ, runs-apart) = both (not (eqb (j .client) (k .client))) (apart p q) e in
+    let (reads-apart, stored) = both (disjoint (p .writes) (q .reads) && disjoint (q .writes) (p .reads)) (disjoint (p .writes) (q .writes)) runs-apart in
+    let (stored-read, read-stored) = both (disjoint (p .writes) (q .reads)) (disjoint (q .writes) (p .reads)) reads-apart in
+    record {
+      clients-differ = eqb-false (j .client) (k .client) (not-true (eqb (j .client) (k .client)) differ);
+      stored-read = disjoint-says (p .writes) (q .reads) stored-read;
+      read-stored = disjoint-says (q .writes) (p .reads) read-stored;
+      stored = disjoint-says (p .writes) (q .writes) stored;
+    }
+
+all-says : {A : Type 0} (q : A → Bool) (P : A → Type 0) → ((a : A) → q a ≡ true → P a) → (l : List A) → all q l ≡ true → All P l
+all-says q P f [] e = tt
+all-says q P f (x ∷ l) e = let k = both (q x) (all q l) e in (f x (k .0), all-says q P f l (k .1))
+
+exchangeable-says : (u : Replica) (ks : List Key) → exchangeable u ks ≡ true → Exchangeable u ks
+unfolding exchangeable
+exchangeable-says u ks e =
+    let left = leb (u .timestamp + length ks) last-timestamp in
+    let (first, passing) = both (left && all (is-pending u) ks) (pairwise (may-pass u) ks) e in
+    let (timestamps, pending) = both left (all (is-pending u) ks) first in
+    record {
+      timestamps = leb-true (u .timestamp + length ks) last-timestamp timestamps;
+      pending = all-says (is-pending u) (λ k. is-pending u k ≡ true) (λ k h. h) ks pending;
+      passing = pairs ks passing;
+    }
+  where
+    pairs : (ks : List Key) → pairwise (may-pass u) ks ≡ true → Pairwise (MayPass u) ks
+    pairs [] e = tt
+    pairs (k ∷ ks) e =
+        let h = both (all (may-pass u k) ks) (pairwise (may-pass u) ks) e in
+        (all-says (may-pass u k) (MayPass u k) (may-pass-says u k) ks (h .0), pairs ks (h .1))
+
+-- ---- values with stores over them
+
+abbrev over-values : (ℕ → Option ℤ) → List ℤ → List ℤ
+over-values f xs = mapi (λ o x. Option·getD (f o) x) xs
+
+over-none : (xs : List ℤ) → over-values (λ o. none) xs ≡ xs
+over-none [] = refl
+over-none (x ∷ xs) = ap (x ∷_) (over-none xs)
+
+over-twice : (f g : ℕ → Option ℤ) (xs : List ℤ) → over-values f (over-values g xs) ≡ over-values (λ o. or-else (f o) (g o)) xs
+over-twice f g [] = refl
+over-twice f g (x ∷ xs) = ap₂ _∷_ (by (f 0)) (over-twice (λ o. f (suc o)) (λ o. g (suc o)) xs)
+  where
+    by : (k : Option ℤ) → Option·getD k (Option·getD (g 0) x) ≡ Option·getD (or-else k (g 0)) x
+    by none = refl
+    by (some v) = refl
+
+over-other : (f : ℕ → Option ℤ) (xs : List ℤ) (o : ℕ) (d : ℤ) → f o ≡ none → getD (over-values f xs) o d ≡ getD xs o d
+over-other f [] o d e = refl
+over-other f (x ∷ xs) zero d e = rw e
+over-other f (x ∷ xs) (suc o) d e = over-other (λ o. f (suc o)) xs o d e
+
+-- what these runs store at an object: the last that stores it
+abbrev stored-by : List Run → ℕ → Option ℤ
+stored-by [] o = none
+stored-by (p ∷ ps) o = or-else (stored-by ps o) (lookup (p .writes) o)
+
+abbrev runs : Replica → List Key → List Run
+runs u ks = map (alone u) ks
+
+-- where no two store one object, in any order the same
+stored-reordered : (u : Replica) {ks ms : List Key} → Permutation ks ms → Pairwise (MayPass u) ks → (o : ℕ) → stored-by (runs u ks) o ≡ stored-by (runs u ms) o
+stored-reordered u List·Permᴰ·nil h o = refl
+stored-reordered u (List·Permᴰ·cons e d) h o = ap₂ or-else (stored-reordered u d (h .1) o) (ap (λ (k : Key). lookup (alone u k .writes) o) e)
+stored-reordered u (List·Permᴰ·swap {a} {b} {a′} {b′} {l} e f) h o =
+    by (stored-by (runs u l) o) (lookup (alone u a .writes) o) (lookup (alone u b .writes) o) (h .0 .0 .stored o)
+    ∙ ap₂ (λ (j k : Key). or-else (or-else (stored-by (runs u l) o) (lookup (alone u j .writes) o)) (lookup (alone u k .writes) o)) e f
+  where
+    by : (r x y : Option ℤ) → (x ≡ none) ⊎ (y ≡ none) → or-else (or-else r y) x ≡ or-else (or-else r x) y
+    by (some v) x y n = refl
+    by none x none n = unit x
+      where
+        unit : (x : Option ℤ) → x ≡ or-else x none
+        unit none = refl
+        unit (some v) = refl
+    by none x (some w) (inl e) = rw e
+    by none x (some w) (inr e) = absurd (Option·none-ne-some w (sym e))
+stored-reordered u (List·Permᴰ·trans d e) h o =
+    stored-reordered u d h o ∙ stored-reordered u e (pairwise-reordered (MayPass u) (may-pass-sym u) d h) o
+
+-- ---- a table that has the values a run read
+
+whole-matches : (T : Table) (b : List Operation) → matches T (whole T b .reads) ≡ true
+unfolding whole
+whole-matches T b = steps-match T b (length b)
+
+matches-too : (S T : Table) (es : List Entry) → ((o : ℕ) → is-some (lookup es o) ≡ true → S .look o ≡ T .look o) → matches T es ≡ true → matches S es ≡ true
+matches-too S T [] f e = refl
+matches-too S T (x ∷ es) f e =
+    let h = both (eq-z (T .look (x .object)) (x .value)) (matches T es) e in
+    let here : S .look (x .object) ≡ T .look (x .object) = f (x .object) (rw (eq-eqb (x .object) (x .object) refl)) in
+    rw (here, h .0) (matches-too S T es (λ o i. f o (by o (eqb (x .object) o) i)) (h .1))
+  where
+    by : (o : ℕ) (b : Bool) → is-some (lookup es o) ≡ true → is-some (cond b (some (x .value)) (lookup es o)) ≡ true
+    by o true i = refl
+    by o false i = i
+
+-- ---- one delivery
+
+-- a key that is pending among unspent ones
+unspent-key : (lasts : List ℕ) (c s : ℕ) (ts : List Transaction) → All (Unspent lasts) ts → any (is-key c s) ts ≡ true → (c < clients) × (spent lasts c s ≡ false)
+unspent-key lasts c s [] a e = absurd (false≢true e)
+unspent-key lasts c s (t ∷ ts) a e = by (is-key c s t) refl e (unspent-key lasts c s ts (a .1))
+  where
+    by : (b : Bool) → is-key c s t ≡ b → b || any (is-key c s) ts ≡ true → (any (is-key c s) ts ≡ true → (c < clients) × (spent lasts c s ≡ false))
+        → (c < clients) × (spent lasts c s ≡ false)
+    by true q e i =
+        let same = both (eqb (t .client) c) (eqb (t .sequence) s) q in
+        let client = eqb-true (t .client) c (same .0) in
+        let sequence = eqb-true (t .sequence) s (same .1) in
+        (subst (λ (x : ℕ). x < clients) client (a .0 .client), ap₂ (spent lasts) (sym client) (sym sequence) ∙ a .0 .above)
+    by false q e i = i e
+
+abbrev after : Replica → Key → Replica
+after u k = delivered u (k .client) (k .sequence) .1
+
+module _ (l : Limits) (u : Replica) (v : Invariant l u) (k : Key) where
+  abbrev c : ℕ
+  c = k .client
+
+  abbrev s : ℕ
+  s = k .sequence
+
+  abbrev T : Table
+  T = committed-table u
+
+  -- kept or run again, its result is its run on the table before it
+  result-alone : result T (keyed u c s) ≡ alone u k
+  unfolding alone
+  result-alone = result-whole T (keyed u c s) (keyed-somewhere l u v c s)
+
+  values-after : newest-values (after u k) ≡ over-values (lookup (alone u k .writes)) (newest-values u)
+  unfolding commit install
+  values-after =
+      rw (← result-alone)
+      (map-mapi (λ vs. newest vs .value) (λ o vs. prune rs (pushed t vs (lookup ws o))) (λ o x. Option·getD (lookup ws o) x) (u .objects)
+      (λ o vs. ap (λ (x : Version). x .value) (newest-prune rs (pushed t vs (lookup ws o))) ∙ pushed-value vs (lookup ws o)))
+    where
+      t : ℕ
+      t = suc (u .timestamp)
+
+      rs : List ℕ
+      rs = opens (u .readers)
+
+      ws : List Entry
+      ws = result T (keyed u c s) .writes
+
+      pushed-value : (vs : List Version) (x : Option ℤ) → newest (pushed t vs x) .value ≡ Option·getD x (newest vs .value)
+      pushed-value vs none = refl
+      pushed-value vs (some z) = refl
+
+  value-at : (w : Replica) (o : ℕ) → getD (newest-values w) o (pos 0) ≡ committed-table w .look o
+  value-at w o = List·getD-map (λ vs. newest vs .value) (w .objects) o []
+
+  -- an object that it does not store keeps its value
+  look-after : (o : ℕ) → lookup (alone u k .writes) o ≡ none → committed-table (after u k) .look o ≡ T .look o
+  look-after o e =
+      sym (value-at (after u k) o)
+      ∙ ap (λ (xs : List ℤ). getD xs o (pos 0)) values-after
+      ∙ over-other (lookup (alone u k .writes)) (newest-values u) o (pos 0) e
+      ∙ value-at u o
+
+  queue-after : sents (after u k .pending) ≡ keep (λ j. not (leaves c s j)) (sents (u .pending))
+  unfolding commit
+  queue-after =
+      walk-sents (committed-table (after u k)) (keep (stays c s) (u .pending))
+      ∙ map-keep (λ (j : Pending). j .sent) (λ j. not (leaves c s j)) (u .pending)
+
+  -- another client's transaction neither leaves nor changes its body
+  module _ (j : Key) (differ : k .client ≡ j .client → ⊥) where
+    abbrev is-j : Transaction → Bool
+    is-j = is-key (j .client) (j .sequence)
+
+    stays-there : (x : Transaction) → is-j x ≡ true → not (leaves c s x) ≡ true
+    stays-there x e =
+        let of-j = eqb-true (x .client) (j .client) (both (eqb (x .client) (j .client)) (eqb (x .sequence) (j .sequence)) e .0) in
+        rw (ne-eqb (x .client) c (λ q. differ (sym q ∙ of-j)))
+
+    picked : pick is-j (sents (after u k .pending)) ≡ pick is-j (sents (u .pending))
+    picked =
+        ap (pick is-j) queue-after
+        ∙ pick-keep is-j (λ x. not (leaves c s x)) (sents (u .pending)) (λ x e. stays-there x (pick-passes is-j (sents (u .pending)) x e))
+
+    still-pending : is-pending (after u k) j ≡ is-pending u j
+    still-pending = asked (after u k) ∙ ap is-some picked ∙ sym (asked u)
+      where
+        asked : (w : Replica) → is-pending w j ≡ is-some (pick is-j (sents (w .pending)))
+        asked w = sym (any-map (λ (i : Pending). i .sent) is-j (w .pending)) ∙ any-pick is-j (sents (w .pending))
+
+    same-program : program (keyed (after u k) (j .client) (j .sequence)) ≡ program (keyed u (j .client) (j .sequence))
+    same-program =
+        ap operations (sym (picked-bytes is-j (after u k .pending)) ∙ ap bytes-of picked ∙ picked-bytes is-j (u .pending))
+
+    -- it runs as before, since it reads nothing that was stored
+    run-unmoved : Disjoint (alone u k .writes) (alone u j .reads) → alone (after u k) j ≡ alone u j
+    unfolding alone commit
+    run-unmoved apart-reads =
+        ap (whole (committed-table (after u k))) same-program
+        ∙ whole-agree (committed-table (after u k)) T refl b (matches-too (committed-table (after u k)) T (alone u j .reads) unchanged (whole-matches T b))
+      where
+        b : List Operation
+        b = program (keyed u (j .client) (j .sequence))
+
+        unchanged : (o : ℕ) → is-some (lookup (alone u j .reads) o) ≡ true → committed-table (after u k) .look o ≡ T .look o
+        unchanged o e = look-after o (not-in (alone u k .writes) (alone u j .reads) apart-reads o e)
+
+  -- "two pending jobs .. with stamps left": pending keys are those of clients, and unspent
+  taken : Shape l u → is-pending u k ≡ true → u .timestamp < last-timestamp → refusal l (facts u) (deliver k) ≡ 0
+  unfolding refusal causes facts
+  taken h waits room =
+      let queued = any-map (λ (j : Pending). j .sent) (is-key c s) (u .pending) ∙ waits in
+      let fresh = unspent-key (u .lasts) c s (sents (u .pending)) (h .unspent) queued in
+      rw (lt-leb clients c (fresh .0), fresh .1, queued, lt-leb last-timestamp (u .timestamp) room)
+
+  -- what it answers, and where it leads
+  delivers : refusal l (facts u) (deliver k) ≡ 0 → (same-answer (call l u (deliver k) .0) ≡ answer-of (alone u k)) × (call l u (deliver k) .1 ≡ after u k)
+  unfolding call perform commit
+  delivers e = rw e (ap answer-of result-alone, refl)
+
+-- ---- deliveries one after another
+
+-- each gives what its run on the table before them all gives
+record InTurn (u : Replica) (ks : List Key) (r : List Answer × Replica) : Type 0 where
+  answers : map same-answer (r .0) ≡ map answer-of (runs u ks)
+  values : newest-values (r .1) ≡ over-values (stored-by (runs u ks)) (newest-values u)
+
+module _ (l : Limits) where
+  -- what is left of the condition after one of them
+  exchangeable-after : (u : Replica) → Invariant l u → (k : Key) (ks : List Key) → Exchangeable u (k ∷ ks)
+      → All (λ j. alone (after u k) j ≡ alone u j) ks × Exchangeable (after u k) ks
+  unfolding commit
+  exchangeable-after u v k ks h =
+      (unmoved, record { timestamps = omega (arith, h .timestamps); pending = pending; passing = pairwise-implies (MayPass u) (MayPass (after u k)) Unmoved passes ks unmoved (h .passing .1) })
+    where
+      Unmoved : Key → Type 0
+      Unmoved j = alone (after u k) j ≡ alone u j
+
+      unmoved : All Unmoved ks
+      unmoved = all-implies (MayPass u k) Unmoved (λ j m. run-unmoved l u v k j (m .clients-differ) (m .stored-read)) ks (h .passing .0)
+
+      pending : All (λ j. is-pending (after u k) j ≡ true) ks
+      pending =
+          all-both (MayPass u k) (λ j. is-pending u j ≡ true) (λ j. is-pending (after u k) j ≡ true) ks
+          (λ j m e. still-pending l u v k j (m .clients-differ) ∙ e) (h .passing .0) (h .pending .1)
+
+      passes : (i j : Key) → Unmoved i → Unmoved j → MayPass u i j → MayPass (after u k) i j
+      passes i j p q m = record { clients-differ = m .clients-differ; stored-read = rw (p, q) (m .stored-read); read-stored = rw (p, q) (m .read-stored); stored = rw (p, q) (m .stored) }
+
+  -- the first, and the others after it
+  module _ (u : Replica) (v : Invariant l u) (h : Shape l u) (k : Key) (ks : List Key) (x : Exchangeable u (k ∷ ks)) where
+    abbrev next : Replica
+    next = call l u (deliver k) .1
+
+    one : (same-answer (call l u (deliver k) .0) ≡ answer-of (alone u k)) × (next ≡ after u k)
+    one = delivers l u v k (taken l u v k h (x .pending .0) (omega (arith, x .timestamps)))
+
+    still-exchangeable : Exchangeable next ks
+    still-exchangeable = rw (one .1) (exchangeable-after u v k ks x .1)
+
+    one-more : InTurn next ks (calls l next (deliveries ks)) → InTurn u (k ∷ ks) (calls l u (deliveries (k ∷ ks)))
+    unfolding calls
+    one-more others =
+        let same-runs = ap (λ (y : Replica). runs y ks) (one .1) ∙ map-all (alone (after u k)) (alone u) ks (exchangeable-after u v k ks x .0) in
+        let first-values = ap newest-values (one .1) ∙ values-after l u v k in
+        record {
+          answers = ap₂ _∷_ (one .0) (others .answers ∙ ap (map answer-of) same-runs);
+          values = others .values
+              ∙ ap₂ over-values (ap stored-by same-runs) first-values
+              ∙ over-twice (stored-by (runs u ks)) (lookup (alone u k .writes)) (newest-values u);
+        }
+
+  in-turn : (ks : List Key) (u : Replica) → Invariant l u → Shape l u → Exchangeable u ks → InTurn u ks (calls l u (deliveries ks))
+  unfolding calls
+  in-turn [] u v h x = record { answers = refl; values = sym (over-none (newest-values u)) }
+  in-turn (k ∷ ks) u v h x =
+      one-more u v h k ks x
+      (in-turn ks (call l u (deliver k) .1) (call-invariant l u v (deliver k)) (call-shape l u h (deliver k) tt) (still-exchangeable u v h k ks x))
+
+  -- in two orders
+  pub record Reordered (u : Replica) (ks ms : List Key) (r q : List Answer × Replica) : Type 0 where
+    pub first : map same-answer (r .0) ≡ map (λ k. answer-of (alone u k)) ks
+    pub second : map same-answer (q .0) ≡ map (λ k. answer-of (alone u k)) ms
+    pub values : newest-values (r .1) ≡ newest-values (q .1)
+
+  pub reordered : (u : Replica) → Invariant l u → Shape l u → (ks ms : List Key) → Permutation ks ms → exchangeable u ks ≡ true
+      → Reordered u ks ms (calls l u (deliveries ks)) (calls l u (deliveries ms))
+  reordered u v h ks ms p e =
+      let x = exchangeable-says u ks e in
+      let y : Exchangeable u ms = record {
+        timestamps = omega (arith, x .timestamps, length-reordered p);
+        pending = all-reordered (λ k. is-pending u k ≡ true) p (x .pending);
+        passing = pairwise-reordered (MayPass u) (may-pass-sym u) p (x .passing);
+      } in
+      let one-way = in-turn ks u v h x in
+      let other-way = in-turn ms u v h y in
+      record {
+        first = one-way .answers ∙ map-map answer-of (alone u) ks;
+        second = other-way .answers ∙ map-map answer-of (alone u) ms;
+        values = one-way .values
+            ∙ ap (λ (f : ℕ → Option ℤ). over-values f (newest-values u)) (fun-ext (stored-reordered u p (x .passing)))
+            ∙ sym (other-way .values);
+      }
