@@ -43,4 +43,5 @@ pub mod CallExamples
 pub mod ShapeExamples
 pub mod AnswerExamples
 pub mod PreviewExamples
+pub mod ExchangeExamples
 pub mod LookedAtExamples
