@@ -1,5 +1,5 @@
 //! What the proved library is tested and measured with: the papers once more in Rust, random lists of calls, damaged
-//! areas, three replicas, and the benchmark's workload.
+//! areas, three replicas, neighbours that change places, and the benchmark's workload.
 
 pub mod agreement;
 pub mod bodies;
@@ -10,6 +10,7 @@ pub mod comparison;
 pub mod coverage;
 pub mod damage;
 pub mod each_field;
+pub mod exchange;
 pub mod face;
 pub mod fields;
 pub mod independent;
