@@ -13,9 +13,10 @@ use Rattle.model.specs.ListLaws.{All}
 use Rattle.model.specs.Invariant.{Invariant, opened-invariant, calls-invariant}
 use Rattle.model.specs.ShapeCheck.{shaped-says}
 use Rattle.model.specs.ShapeKept.{Typed}
-use Rattle.model.specs.Exchange.{Key, deliveries, alone, exchangeable, same-answer, answer-of, newest-values}
+use Rattle.model.specs.Exchange.{Key, deliveries, alone, exchangeable, exchangeable-by-bodies, same-answer, answer-of, newest-values}
 use Rattle.model.specs.Reordering.{Permutation}
 use Rattle.model.specs.ExchangeLaws as states
+use Rattle.model.specs.NamedObjects.{by-bodies}
 use Rattle.layout.specs.Layout.{Areas, parse, print}
 use Rattle.layout.specs.Fit.{parse-print}
 use Rattle.layout.specs.Act.{acts}
@@ -111,3 +112,7 @@ module _ {l : Limits} (x : Trace l) where
         outcomes = h .first .outcomes ∙ sym (ap reverse (h .second .outcomes));
         values = h .values;
       }
+
+  -- Told by the two bodies alone: no store of the one is of an object that the other loads or stores.
+  pub exchange-by-bodies : (j k : Key) → exchangeable-by-bodies (replica x) (j ∷ k ∷ []) ≡ true → Exchanged l (areas x) j k
+  exchange-by-bodies j k e = exchange j k (by-bodies (replica x) (j ∷ k ∷ []) e)

@@ -1,10 +1,13 @@
 -- S-14 of document 02, "Neighbours that may change places": which pending transactions they are, and what is the same in every order. Assumes nothing.
-use mathlib.Core.Bool.{Bool, true, false, not, _&&_}
+use mathlib.Core.Bool.{Bool, true, false, not, _&&_, _||_}
+use mathlib.Core.Option.{Option, none, some}
 use mathlib.Core.List.{List, [], _∷_, map}
 use Prim.Native.Nat.{ℕ, _+_}
 use lib.IntN.{ℤ}
 use lib.Dec.{eqb, leb}
 use lib.ListN.{length}
+use Rattle.operation.specs.declared.Operation.{Operation}
+use Rattle.operation.specs.declared.Operation.the-variants.{Load, Store, Set, Add, Subtract, Skip, Fail, Divide}
 use Rattle.execution.specs.Entries.{Entry, lookup}
 use Rattle.execution.specs.Run.{Run, whole}
 use Rattle.model.specs.Lists.{any, all}
@@ -35,9 +38,13 @@ disjoint xs ys = not (any (λ (x : Entry). is-some (lookup ys (x .object))) xs)
 unfoldable pub apart : Run → Run → Bool
 apart p q = disjoint (p .writes) (q .reads) && disjoint (q .writes) (p .reads) && disjoint (p .writes) (q .writes)
 
+-- the body of a pending key
+abbrev pub body-of : Replica → Key → List Operation
+body-of u k = program (keyed u (k .client) (k .sequence))
+
 -- "each run on the table before them": whole, whatever its early results are
 unfoldable pub alone : Replica → Key → Run
-alone u k = whole (committed-table u) (program (keyed u (k .client) (k .sequence)))
+alone u k = whole (committed-table u) (body-of u k)
 
 -- "jobs of different clients"
 unfoldable pub may-pass : Replica → Key → Key → Bool
@@ -46,14 +53,70 @@ may-pass u j k = not (eqb (j .client) (k .client)) && apart (alone u j) (alone u
 abbrev pub is-pending : Replica → Key → Bool
 is-pending u k = any (has-key (k .client) (k .sequence)) (u .pending)
 
+-- "pending .. with stamps left for both", or for all
+unfoldable pub deliverable : Replica → List Key → Bool
+deliverable u ks = leb (u .timestamp + length ks) last-timestamp && all (is-pending u) ks
+
 -- each with all that come after it
 abbrev pub pairwise : {A : Type 0} → (A → A → Bool) → List A → Bool
 pairwise r [] = true
 pairwise r (x ∷ l) = all (r x) l && pairwise r l
 
--- all of it, of two or of more: "with stamps left for both", pending, and pair by pair of different clients and apart
+-- the condition whole, of two or of more
 unfoldable pub exchangeable : Replica → List Key → Bool
-exchangeable u ks = leb (u .timestamp + length ks) last-timestamp && all (is-pending u) ks && pairwise (may-pass u) ks
+exchangeable u ks = deliverable u ks && pairwise (may-pass u) ks
+
+-- ---- the same told by the bodies alone, on every table
+
+-- the object that an operation loads, or stores
+abbrev pub loaded : Operation → Option ℕ
+loaded (Load r o) = some o
+loaded (Store r o) = none
+loaded (Set r v) = none
+loaded (Add r s) = none
+loaded (Subtract r s) = none
+loaded (Skip r k) = none
+loaded Fail = none
+loaded (Divide r d) = none
+
+abbrev pub stored : Operation → Option ℕ
+stored (Load r o) = none
+stored (Store r o) = some o
+stored (Set r v) = none
+stored (Add r s) = none
+stored (Subtract r s) = none
+stored (Skip r k) = none
+stored Fail = none
+stored (Divide r d) = none
+
+abbrev pub is-at : ℕ → Option ℕ → Bool
+is-at o none = false
+is-at o (some i) = eqb i o
+
+abbrev pub loads : List Operation → ℕ → Bool
+loads b o = any (λ (x : Operation). is-at o (loaded x)) b
+
+abbrev pub stores : List Operation → ℕ → Bool
+stores b o = any (λ (x : Operation). is-at o (stored x)) b
+
+-- neither loaded nor stored by this body, if it is an object
+abbrev pub leaves-alone : List Operation → Option ℕ → Bool
+leaves-alone b none = true
+leaves-alone b (some o) = not (loads b o || stores b o)
+
+-- no store of b is of an object that d loads or stores
+unfoldable pub clear : List Operation → List Operation → Bool
+clear b d = all (λ (x : Operation). leaves-alone d (stored x)) b
+
+unfoldable pub bodies-apart : List Operation → List Operation → Bool
+bodies-apart b d = clear b d && clear d b
+
+unfoldable pub bodies-may-pass : Replica → Key → Key → Bool
+bodies-may-pass u j k = not (eqb (j .client) (k .client)) && bodies-apart (body-of u j) (body-of u k)
+
+-- what a planner can tell without a run: more than is needed, never less
+unfoldable pub exchangeable-by-bodies : Replica → List Key → Bool
+exchangeable-by-bodies u ks = deliverable u ks && pairwise (bodies-may-pass u) ks
 
 -- ---- what is the same in every order
 

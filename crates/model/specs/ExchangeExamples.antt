@@ -14,7 +14,7 @@ use Rattle.model.specs.Calls.{Opening, by-values, Call, optimistic, exec
 use Rattle.model.specs.Start.{start-of}
 use Rattle.model.specs.Replica.{Replica, newest, opened, calls}
 use Rattle.model.specs.Limits.{small}
-use Rattle.model.specs.Exchange.{Key, deliveries, disjoint, apart, alone, may-pass, is-pending, exchangeable, newest-values}
+use Rattle.model.specs.Exchange.{Key, deliveries, disjoint, apart, alone, may-pass, is-pending, deliverable, exchangeable, clear, bodies-apart, bodies-may-pass, exchangeable-by-bodies, newest-values}
 use Rattle.model.specs.Computing.{computing}
 
 -- ---- sets
@@ -100,7 +100,7 @@ pub apart-exchanged :
     (exchangeable two-apart (key 1 1 ∷ key 2 1 ∷ []) ≡ true)
     × (delivered two-apart (key 1 1 ∷ key 2 1 ∷ []) ≡ (committed 0 true 8 1 0 ∷ committed 0 true 9 1 0 ∷ [], (values 15 20 30 30, stamps 8 7 7 9)))
     × (delivered two-apart (key 2 1 ∷ key 1 1 ∷ []) ≡ (committed 0 true 8 1 0 ∷ committed 0 true 9 1 0 ∷ [], (values 15 20 30 30, stamps 9 7 7 8)))
-unfolding computing exchangeable may-pass apart disjoint alone
+unfolding computing deliverable exchangeable may-pass apart disjoint alone
 apart-exchanged = (refl, refl, refl)
 
 -- one that fails has stored nothing, and has read from outside nothing of what the other stores
@@ -111,7 +111,7 @@ pub failed-exchanged :
     (exchangeable one-fails (key 1 1 ∷ key 2 1 ∷ []) ≡ true)
     × (delivered one-fails (key 1 1 ∷ key 2 1 ∷ []) ≡ (committed 1 false 8 0 4 ∷ committed 0 false 9 1 2 ∷ [], (values 10 7 30 40, stamps 7 9 7 7)))
     × (delivered one-fails (key 2 1 ∷ key 1 1 ∷ []) ≡ (committed 0 false 8 1 2 ∷ committed 1 false 9 0 4 ∷ [], (values 10 7 30 40, stamps 7 8 7 7)))
-unfolding computing exchangeable may-pass apart disjoint alone
+unfolding computing deliverable exchangeable may-pass apart disjoint alone
 failed-exchanged = (refl, refl, refl)
 
 -- Kept or run again may differ. Client 2 copied early what client 4 stored, and is run again: then client 3, which read the copy, goes back to its start,
@@ -123,7 +123,7 @@ pub kept-differs :
     (exchangeable in-a-row (key 1 1 ∷ key 2 1 ∷ []) ≡ true)
     × (delivered in-a-row (key 1 1 ∷ key 2 1 ∷ []) ≡ (committed 0 true 8 1 0 ∷ committed 0 false 9 1 2 ∷ [], (values 10 10 30 30, stamps 7 9 7 8)))
     × (delivered in-a-row (key 2 1 ∷ key 1 1 ∷ []) ≡ (committed 0 false 8 1 2 ∷ committed 0 false 9 1 2 ∷ [], (values 10 10 30 30, stamps 7 8 7 9)))
-unfolding computing exchangeable may-pass apart disjoint alone
+unfolding computing deliverable exchangeable may-pass apart disjoint alone
 kept-differs = (refl, refl, refl)
 
 -- three, in another order
@@ -134,7 +134,7 @@ pub three-reordered :
     (exchangeable three-apart (key 1 1 ∷ key 2 1 ∷ key 3 1 ∷ []) ≡ true)
     × (delivered three-apart (key 1 1 ∷ key 2 1 ∷ key 3 1 ∷ []) .1 ≡ (values 15 7 30 30, stamps 8 10 7 9))
     × (delivered three-apart (key 3 1 ∷ key 1 1 ∷ key 2 1 ∷ []) .1 ≡ (values 15 7 30 30, stamps 9 8 7 10))
-unfolding computing exchangeable may-pass apart disjoint alone
+unfolding computing deliverable exchangeable may-pass apart disjoint alone
 three-reordered = (refl, refl, refl)
 
 -- ---- why each part of the condition is there: where one is missing the exchange tells
@@ -163,14 +163,14 @@ pub stored-then-read :
     × (exchangeable fills-first (key 1 1 ∷ key 2 1 ∷ []) ≡ false)
     × (delivered fills-first (key 1 1 ∷ key 2 1 ∷ []) ≡ (committed 0 false 8 1 2 ∷ committed 3 false 9 0 4 ∷ [], (values 48 20 30 40, stamps 8 7 7 7)))
     × (delivered fills-first (key 2 1 ∷ key 1 1 ∷ []) ≡ (committed 0 false 8 1 4 ∷ committed 0 false 9 1 2 ∷ [], (values 48 15 30 40, stamps 9 8 7 7)))
-unfolding computing exchangeable may-pass apart disjoint alone
+unfolding computing deliverable exchangeable may-pass apart disjoint alone
 stored-then-read = (refl, refl, refl, refl)
 
 -- the second stores what the first reads
 pub read-then-stored :
     (parts fills-first (key 2 1) (key 1 1) ≡ true ∷ true ∷ true ∷ true ∷ true ∷ false ∷ true ∷ [])
     × (exchangeable fills-first (key 2 1 ∷ key 1 1 ∷ []) ≡ false)
-unfolding computing exchangeable may-pass apart disjoint alone
+unfolding computing deliverable exchangeable may-pass apart disjoint alone
 read-then-stored = (refl, refl)
 
 -- both store one object: the later one stays
@@ -182,7 +182,7 @@ pub stored-by-both :
     × (exchangeable fills-and-drains (key 1 1 ∷ key 2 1 ∷ []) ≡ false)
     × (delivered fills-and-drains (key 1 1 ∷ key 2 1 ∷ []) .1 ≡ (values 3 20 30 40, stamps 9 7 7 7))
     × (delivered fills-and-drains (key 2 1 ∷ key 1 1 ∷ []) .1 ≡ (values 48 20 30 40, stamps 9 7 7 7))
-unfolding computing exchangeable may-pass apart disjoint alone
+unfolding computing deliverable exchangeable may-pass apart disjoint alone
 stored-by-both = (refl, refl, refl, refl)
 
 -- the same client: its lower number leaves with the higher one, and is spent
@@ -194,7 +194,7 @@ pub same-client :
     × (exchangeable one-client (key 1 1 ∷ key 1 2 ∷ []) ≡ false)
     × (delivered one-client (key 1 1 ∷ key 1 2 ∷ []) ≡ (committed 0 false 8 1 2 ∷ committed 0 false 9 1 2 ∷ [], (values 48 20 30 30, stamps 8 7 7 9)))
     × (delivered one-client (key 1 2 ∷ key 1 1 ∷ []) ≡ (committed 0 false 8 1 2 ∷ refused 4 ∷ [], (values 10 20 30 30, stamps 7 7 7 8)))
-unfolding computing exchangeable may-pass apart disjoint alone
+unfolding computing deliverable exchangeable may-pass apart disjoint alone
 same-client = (refl, refl, refl, refl)
 
 -- a stamp left for one alone: the second is refused
@@ -208,7 +208,7 @@ pub last-stamp :
     × (delivered one-stamp (key 2 1 ∷ key 1 1 ∷ []) .0 ≡ committed 0 false 4294967295 1 2 ∷ refused 9 ∷ [])
     × (delivered one-stamp (key 1 1 ∷ key 2 1 ∷ []) .1 .0 ≡ values 48 20 30 40)
     × (delivered one-stamp (key 2 1 ∷ key 1 1 ∷ []) .1 .0 ≡ values 10 20 30 30)
-unfolding computing exchangeable may-pass apart disjoint alone
+unfolding computing deliverable exchangeable may-pass apart disjoint alone
 last-stamp = (refl, refl, refl, refl, refl, refl)
 
 -- not pending
@@ -216,5 +216,19 @@ pub not-delivered-early :
     (parts two-apart (key 1 1) (key 3 1) ≡ true ∷ true ∷ false ∷ true ∷ true ∷ true ∷ true ∷ [])
     × (exchangeable two-apart (key 1 1 ∷ key 3 1 ∷ []) ≡ false)
     × (delivered two-apart (key 1 1 ∷ key 3 1 ∷ []) .0 ≡ committed 0 true 8 1 0 ∷ refused 8 ∷ [])
-unfolding computing exchangeable may-pass apart disjoint alone
+unfolding computing deliverable exchangeable may-pass apart disjoint alone
 not-delivered-early = (refl, refl, refl)
+
+-- ---- told by the bodies alone
+
+-- every load and every store counts, carried out or not
+pub bodies-hold :
+    (exchangeable-by-bodies two-apart (key 1 1 ∷ key 2 1 ∷ []) ≡ true)
+    × (exchangeable-by-bodies fills-first (key 1 1 ∷ key 2 1 ∷ []) ≡ false)
+    × (exchangeable-by-bodies fills-first (key 2 1 ∷ key 1 1 ∷ []) ≡ false)
+    × (exchangeable-by-bodies fills-and-drains (key 1 1 ∷ key 2 1 ∷ []) ≡ false)
+    × (exchangeable-by-bodies one-client (key 1 1 ∷ key 1 2 ∷ []) ≡ false)
+    × (exchangeable-by-bodies one-stamp (key 1 1 ∷ key 2 1 ∷ []) ≡ false)
+    × (exchangeable-by-bodies one-fails (key 1 1 ∷ key 2 1 ∷ []) ≡ false)
+unfolding computing deliverable exchangeable-by-bodies bodies-may-pass bodies-apart clear
+bodies-hold = (refl, refl, refl, refl, refl, refl, refl)

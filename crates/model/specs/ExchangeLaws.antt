@@ -33,7 +33,7 @@ use Rattle.model.specs.Correspondence.{picked-bytes, keyed-somewhere}
 use Rattle.model.specs.Validation.{steps-match}
 use Rattle.model.specs.Shape.{Unspent, Shape}
 use Rattle.model.specs.ShapeKept.{call-shape}
-use Rattle.model.specs.Exchange.{Key, deliver, deliveries, disjoint, apart, alone, may-pass, is-pending, pairwise, exchangeable, same-answer, answer-of, newest-values}
+use Rattle.model.specs.Exchange.{Key, deliver, deliveries, disjoint, apart, body-of, alone, may-pass, is-pending, deliverable, pairwise, exchangeable, same-answer, answer-of, newest-values}
 use Rattle.model.specs.Reordering.{Permutation, Pairwise, length-reordered, all-reordered, pairwise-reordered, pairwise-implies}
 
 -- ---- sets with no object in common
@@ -115,11 +115,11 @@ all-says q P f [] e = tt
 all-says q P f (x ∷ l) e = let k = both (q x) (all q l) e in (f x (k .0), all-says q P f l (k .1))
 
 exchangeable-says : (u : Replica) (ks : List Key) → exchangeable u ks ≡ true → Exchangeable u ks
-unfolding exchangeable
+unfolding exchangeable deliverable
 exchangeable-says u ks e =
     let left = leb (u .timestamp + length ks) last-timestamp in
-    let (first, passing) = both (left && all (is-pending u) ks) (pairwise (may-pass u) ks) e in
-    let (timestamps, pending) = both left (all (is-pending u) ks) first in
+    let (ready, passing) = both (deliverable u ks) (pairwise (may-pass u) ks) e in
+    let (timestamps, pending) = both left (all (is-pending u) ks) ready in
     record {
       timestamps = leb-true (u .timestamp + length ks) last-timestamp timestamps;
       pending = all-says (is-pending u) (λ k. is-pending u k ≡ true) (λ k h. h) ks pending;
@@ -291,20 +291,18 @@ module _ (l : Limits) (u : Replica) (v : Invariant l u) (k : Key) where
         asked : (w : Replica) → is-pending w j ≡ is-some (pick is-j (sents (w .pending)))
         asked w = sym (any-map (λ (i : Pending). i .sent) is-j (w .pending)) ∙ any-pick is-j (sents (w .pending))
 
-    same-program : program (keyed (after u k) (j .client) (j .sequence)) ≡ program (keyed u (j .client) (j .sequence))
-    same-program =
+    same-body : body-of (after u k) j ≡ body-of u j
+    same-body =
         ap operations (sym (picked-bytes is-j (after u k .pending)) ∙ ap bytes-of picked ∙ picked-bytes is-j (u .pending))
 
     -- it runs as before, since it reads nothing that was stored
     run-unmoved : Disjoint (alone u k .writes) (alone u j .reads) → alone (after u k) j ≡ alone u j
     unfolding alone commit
     run-unmoved apart-reads =
-        ap (whole (committed-table (after u k))) same-program
-        ∙ whole-agree (committed-table (after u k)) T refl b (matches-too (committed-table (after u k)) T (alone u j .reads) unchanged (whole-matches T b))
+        ap (whole (committed-table (after u k))) same-body
+        ∙ whole-agree (committed-table (after u k)) T refl (body-of u j)
+        (matches-too (committed-table (after u k)) T (alone u j .reads) unchanged (whole-matches T (body-of u j)))
       where
-        b : List Operation
-        b = program (keyed u (j .client) (j .sequence))
-
         unchanged : (o : ℕ) → is-some (lookup (alone u j .reads) o) ≡ true → committed-table (after u k) .look o ≡ T .look o
         unchanged o e = look-after o (not-in (alone u k .writes) (alone u j .reads) apart-reads o e)
 

@@ -37,6 +37,7 @@ pub mod Ceiling
 pub mod Exchange
 pub mod Reordering
 pub mod ExchangeLaws
+pub mod NamedObjects
 pub mod Computing
 pub mod Cases
 pub mod CallExamples
