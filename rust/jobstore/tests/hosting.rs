@@ -250,6 +250,31 @@ fn a_dry_run_holds_until_the_next_final_delivery() -> Result<(), Refusal> {
 }
 
 #[test]
+fn jobs_on_different_objects_change_places() -> Result<(), Refusal> {
+    let mut replica = opened();
+    replica.deliver_early((1, 1), add(0, 5))?;
+    replica.deliver_early((2, 1), copy(1, 2))?;
+    let mut exchanged = replica.copy();
+    let [first, second] = [replica.deliver_final((1, 1))?, replica.deliver_final((2, 1))?];
+    let [second_now, first_now] = [exchanged.deliver_final((2, 1))?, exchanged.deliver_final((1, 1))?];
+    assert_eq!([first.outcome, second.outcome], [first_now.outcome, second_now.outcome]);
+    assert_eq!((table(&replica), table(&exchanged)), (vec![15, 20, 20], vec![15, 20, 20]));
+    assert_eq!(([first.stamp, second.stamp], [first_now.stamp, second_now.stamp]), ([1, 2], [2, 1]));
+
+    // One that loads what the other stores may not pass it: it would take the old value.
+    let mut replica = opened();
+    replica.deliver_early((1, 1), add(0, 5))?;
+    replica.deliver_early((2, 1), copy(0, 2))?;
+    let mut exchanged = replica.copy();
+    for client in [1, 2] {
+        replica.deliver_final((client, 1))?;
+        exchanged.deliver_final((3 - client, 1))?;
+    }
+    assert_eq!((table(&replica), table(&exchanged)), (vec![15, 20, 15], vec![15, 20, 10]));
+    Ok(())
+}
+
+#[test]
 fn a_job_that_never_comes_leaves_with_its_clients_next() -> Result<(), Refusal> {
     let mut replica = opened();
     let empty = Body::new().set(0, 0);

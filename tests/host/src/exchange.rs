@@ -2,7 +2,7 @@
 //! a list of calls led to. Those that are apart have to come to the same in both; of the others it is counted whether
 //! they do.
 
-use crate::body::decode;
+use crate::body::{decode, Operation};
 use crate::calls::{seen, Call, Calls};
 use crate::comparison::{committed_objects, same, Difference};
 use crate::coverage::Coverage;
@@ -20,7 +20,8 @@ use std::collections::BTreeMap;
 pub struct Moment {
     library: Library,
     state: State,
-    /// Of each pending transaction, by its place: the run from its start, if it were delivered finally now.
+    /// Of each pending transaction, by its place: its program, and the run of it if it were delivered finally now.
+    programs: Vec<Vec<Operation>>,
     runs: Vec<Run>,
 }
 
@@ -52,8 +53,10 @@ impl Moment {
     pub fn new(library: Library) -> Result<Moment, Difference> {
         let state = shaped(&library)?;
         let table = state.committed();
-        let runs = state.pending.iter().map(|pending| whole(&pending.body, &table, &state.bounds)).collect();
-        Ok(Moment { library, state, runs })
+        let program = |pending: &Transaction| decode(&pending.body, STANDARD.operations, table.len()).unwrap();
+        let programs: Vec<Vec<Operation>> = state.pending.iter().map(program).collect();
+        let runs = programs.iter().map(|program| whole(program, &table, &state.bounds)).collect();
+        Ok(Moment { library, state, programs, runs })
     }
 
     fn independent(&self) -> Independent {
@@ -164,12 +167,11 @@ fn shaped(library: &Library) -> Result<State, Difference> {
     state.map_err(|sentence| format!("areas fail the shape check: {sentence}"))
 }
 
-/// The body run from its start to its end.
-fn whole(body: &[u8], table: &[i64], bounds: &[Bounds]) -> Run {
-    let program = decode(body, STANDARD.operations, table.len()).unwrap();
+/// The program run from its start to its end.
+fn whole(program: &[Operation], table: &[i64], bounds: &[Bounds]) -> Run {
     let mut run = Run::default();
     while run.outcome.is_none() {
-        run.step(&program, table, bounds);
+        run.step(program, table, bounds);
     }
     run
 }
@@ -193,12 +195,29 @@ fn meet(some: &[(usize, i64)], others: &[(usize, i64)]) -> bool {
     some.iter().any(|(object, _)| others.iter().any(|(other, _)| other == object))
 }
 
+/// Told without a run: no store of either is of an object that the other loads or stores, carried out or not.
+fn programs_apart(one: &[Operation], other: &[Operation]) -> bool {
+    let names = |program: &[Operation], object| {
+        let named = |operation: &Operation| matches!(*operation, Operation::Load(_, named) | Operation::Store(_, named) if named == object);
+        program.iter().any(named)
+    };
+    let clear = |one: &[Operation], other: &[Operation]| {
+        one.iter().all(|operation| !matches!(*operation, Operation::Store(_, object) if names(other, object)))
+    };
+    clear(one, other) && clear(other, one)
+}
+
 /// Two in both orders: as claimed if they are apart, else as they happen to come out.
 fn compare_pair(coverage: &mut Coverage, moment: &Moment, orders: [&[usize]; 2]) -> Result<(), Difference> {
     let (first, second) = (orders[0][0], orders[0][1]);
+    let told = programs_apart(&moment.programs[first], &moment.programs[second]);
+    if told {
+        same("apart by the bodies, and by the runs", conflict(&moment.runs[first], &moment.runs[second]), None)?;
+    }
     let Some(obstacle) = moment.obstacle(first, second) else {
         let both = moment.exchange(orders)?;
         count_pair(coverage, [&moment.runs[first], &moment.runs[second]], &both);
+        coverage.count(if told { "exchanged: told by the bodies" } else { "exchanged: told by the runs alone" });
         return Ok(());
     };
     let (one, other) = (moment.deliver(orders[0])?, moment.deliver(orders[1])?);
@@ -313,6 +332,8 @@ pub fn required() -> Vec<String> {
         "exchanged: both store",
         "exchanged: kept in one order and run again in the other",
         "exchanged: stamps of versions differ",
+        "exchanged: told by the bodies",
+        "exchanged: told by the runs alone",
         "in two orders: kept in one and run again in the other",
         "in two orders: three or more store",
     ];
