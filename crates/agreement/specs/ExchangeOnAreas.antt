@@ -1,12 +1,11 @@
 -- S-14 of document 02, for planners, on the two lent areas: after any list of calls, pending transactions that may change places. Assumes nothing.
-use mathlib.Core.Path.{_≡_, refl, sym, ap, ap₂, _∙_}
+use mathlib.Core.Path.{_≡_, refl, sym, ap, _∙_}
 use mathlib.Core.Bool.{true, _&&_}
 use mathlib.Core.List.{List, [], _∷_, map, reverse, List·Permᴰ·swap}
 use lib.IntN.{ℤ}
 use Rattle.model.specs.declared.Limits.{Limits}
 use Rattle.model.specs.Lists.{all}
 use Rattle.model.specs.Interface.{Answer, refused, yielded}
-use Rattle.model.specs.Calls.{Call}
 use Rattle.model.specs.Start.{start-of}
 use Rattle.model.specs.Replica.{Replica, calls}
 use Rattle.model.specs.ListLaws.{All}

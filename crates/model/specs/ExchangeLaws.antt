@@ -2,15 +2,15 @@
 -- same. The pair that changes places is the list of two. Assumes nothing.
 use mathlib.Core.Path.{_≡_, refl, sym, ap, ap₂, _∙_, subst, fun-ext}
 use mathlib.Core.Logic.{_⊎_, inl, inr}
-use mathlib.Core.Bool.{Bool, true, false, not, cond, _&&_, _||_, false≢true, true≢false}
-use mathlib.Core.Option.{Option, none, some, Option·getD, Option·none-ne-some, Option·some-injective}
+use mathlib.Core.Bool.{Bool, true, false, not, _&&_, _||_, false≢true}
+use mathlib.Core.Option.{Option, none, some, Option·getD, Option·none-ne-some}
 use mathlib.Core.List.{List, [], _∷_, map, map-map, List·Permᴰ·nil, List·Permᴰ·cons, List·Permᴰ·swap, List·Permᴰ·trans}
 use Prim.Native.Nat.{ℕ, zero, suc, _+_, _≤_, _<_}
 use native.Mathlib.Omega.{arith}
 use lib.IntN.{ℤ, pos}
 use lib.Dec.{eqb, leb}
 use lib.ListN.{length, getD, List·getD-map}
-use borrow.Author.Tests.{eq-eqb, eqb-true, eqb-false, ne-eqb, leb-true, lt-leb, not-true, not-false}
+use borrow.Author.Tests.{eq-eqb, eqb-true, eqb-false, ne-eqb, leb-true, lt-leb, not-true}
 use Rattle.arith.specs.Integer.{eq-z}
 use Rattle.operation.specs.Body.{operations}
 use Rattle.operation.specs.declared.Operation.{Operation}
@@ -19,13 +19,13 @@ use Rattle.execution.specs.Run.{Table, Run, or-else, whole, matches}
 use Rattle.execution.specs.ReadAgreement.{both, whole-agree}
 use Rattle.model.specs.declared.Limits.{Limits}
 use Rattle.model.specs.Lists.{pick, keep, any, all, mapi}
-use Rattle.model.specs.Interface.{Answer, yielded, committed}
-use Rattle.model.specs.Calls.{Transaction, is-key, leaves, bytes-of, clients, spent, last-timestamp, causes, refusal, judged}
+use Rattle.model.specs.Interface.{Answer}
+use Rattle.model.specs.Calls.{Transaction, is-key, leaves, bytes-of, clients, spent, last-timestamp, causes, refusal}
 use Rattle.model.specs.Start.{Version}
 use Rattle.model.specs.Serial.{is-some}
-use Rattle.model.specs.Replica.{Pending, Replica, newest, opens, prune, pushed, install, committed-table, program, walk, keyed, stays, result, facts, commit, delivered, perform, call, calls}
+use Rattle.model.specs.Replica.{Pending, Replica, newest, opens, prune, pushed, install, committed-table, keyed, stays, result, facts, commit, delivered, perform, call, calls}
 use Rattle.model.specs.ListLaws.{All, all-implies, all-both, any-map, map-all, map-keep, map-mapi, pick-keep}
-use Rattle.model.specs.Tests.{neither, any-pick, pick-passes}
+use Rattle.model.specs.Tests.{all-says, any-pick, pick-passes}
 use Rattle.model.specs.VersionLaws.{newest-prune}
 use Rattle.model.specs.EarlyResults.{sents, walk-sents, result-whole}
 use Rattle.model.specs.Invariant.{Invariant, call-invariant}
@@ -33,45 +33,9 @@ use Rattle.model.specs.Correspondence.{picked-bytes, keyed-somewhere}
 use Rattle.model.specs.Validation.{steps-match}
 use Rattle.model.specs.Shape.{Unspent, Shape}
 use Rattle.model.specs.ShapeKept.{call-shape}
+use Rattle.model.specs.EntrySets.{Disjoint, disjoint-says, disjoint-sym, not-in, lookup-later}
 use Rattle.model.specs.Exchange.{Key, deliver, deliveries, disjoint, apart, body-of, alone, may-pass, is-pending, deliverable, pairwise, exchangeable, same-answer, answer-of, newest-values}
 use Rattle.model.specs.Reordering.{Permutation, Pairwise, length-reordered, all-reordered, pairwise-reordered, pairwise-implies}
-
--- ---- sets with no object in common
-
-abbrev Disjoint : List Entry → List Entry → Type 0
-Disjoint xs ys = (o : ℕ) → (lookup xs o ≡ none) ⊎ (lookup ys o ≡ none)
-
-disjoint-says : (xs ys : List Entry) → disjoint xs ys ≡ true → Disjoint xs ys
-unfolding disjoint
-disjoint-says xs ys e o = by (lookup ys o) refl
-  where
-    in-both : Entry → Bool
-    in-both x = is-some (lookup ys (x .object))
-
-    absent : (l : List Entry) → any in-both l ≡ false → is-some (lookup ys o) ≡ true → lookup l o ≡ none
-    absent [] h s = refl
-    absent (x ∷ l) h s =
-        let k = neither (in-both x) (any in-both l) h in
-        rw (ne-eqb (x .object) o (λ q. false≢true (sym (k .0) ∙ ap (λ (i : ℕ). is-some (lookup ys i)) q ∙ s))) (absent l (k .1) s)
-
-    by : (k : Option ℤ) → lookup ys o ≡ k → (lookup xs o ≡ none) ⊎ (lookup ys o ≡ none)
-    by none q = inr q
-    by (some v) q = inl (absent xs (not-true (any in-both xs) e) (ap is-some q))
-
-disjoint-sym : (xs ys : List Entry) → Disjoint xs ys → Disjoint ys xs
-disjoint-sym xs ys h o = by (h o)
-  where
-    by : (lookup xs o ≡ none) ⊎ (lookup ys o ≡ none) → (lookup ys o ≡ none) ⊎ (lookup xs o ≡ none)
-    by (inl e) = inr e
-    by (inr e) = inl e
-
--- an object of the one is none of the other
-not-in : (xs ys : List Entry) → Disjoint xs ys → (o : ℕ) → is-some (lookup ys o) ≡ true → lookup xs o ≡ none
-not-in xs ys h o s = by (h o)
-  where
-    by : (lookup xs o ≡ none) ⊎ (lookup ys o ≡ none) → lookup xs o ≡ none
-    by (inl e) = e
-    by (inr e) = absurd (false≢true (sym (ap is-some e) ∙ s))
 
 -- ---- the condition as facts
 
@@ -109,10 +73,6 @@ may-pass-says u j k e =
       read-stored = disjoint-says (q .writes) (p .reads) read-stored;
       stored = disjoint-says (p .writes) (q .writes) stored;
     }
-
-all-says : {A : Type 0} (q : A → Bool) (P : A → Type 0) → ((a : A) → q a ≡ true → P a) → (l : List A) → all q l ≡ true → All P l
-all-says q P f [] e = tt
-all-says q P f (x ∷ l) e = let k = both (q x) (all q l) e in (f x (k .0), all-says q P f l (k .1))
 
 exchangeable-says : (u : Replica) (ks : List Key) → exchangeable u ks ≡ true → Exchangeable u ks
 unfolding exchangeable deliverable
@@ -193,11 +153,7 @@ matches-too S T [] f e = refl
 matches-too S T (x ∷ es) f e =
     let h = both (eq-z (T .look (x .object)) (x .value)) (matches T es) e in
     let here : S .look (x .object) ≡ T .look (x .object) = f (x .object) (rw (eq-eqb (x .object) (x .object) refl)) in
-    rw (here, h .0) (matches-too S T es (λ o i. f o (by o (eqb (x .object) o) i)) (h .1))
-  where
-    by : (o : ℕ) (b : Bool) → is-some (lookup es o) ≡ true → is-some (cond b (some (x .value)) (lookup es o)) ≡ true
-    by o true i = refl
-    by o false i = i
+    rw (here, h .0) (matches-too S T es (λ o i. f o (lookup-later x es o i)) (h .1))
 
 -- ---- one delivery
 

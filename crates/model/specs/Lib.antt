@@ -35,6 +35,7 @@ pub mod ShapeParts
 pub mod ShapeKept
 pub mod Ceiling
 pub mod Exchange
+pub mod EntrySets
 pub mod Reordering
 pub mod ExchangeLaws
 pub mod NamedObjects

@@ -1,7 +1,7 @@
 -- The objects that a body names: on any table a run reads from outside only what a load of its body names, and stores only what a store names. So two
 -- bodies are apart on every table if neither stores an object that the other loads or stores. Assumes nothing.
-use mathlib.Core.Path.{_≡_, refl, sym, ap, _∙_}
-use mathlib.Core.Bool.{Bool, true, false, not, cond, _&&_, _||_, false≢true, true≢false}
+use mathlib.Core.Path.{_≡_, refl, ap, _∙_}
+use mathlib.Core.Bool.{Bool, true, false, not, cond, _||_, false≢true}
 use mathlib.Core.Option.{Option, none, some, Option·none-ne-some, Option·some-injective}
 use mathlib.Core.List.{List, [], _∷_, head?}
 use Prim.Native.Nat.{ℕ, zero, suc}
@@ -12,8 +12,8 @@ use borrow.Author.Tests.{eq-eqb, eqb-true, eqb-false, not-true}
 use Rattle.arith.specs.Integer.{fits}
 use Rattle.operation.specs.declared.Operation.{Operation}
 use Rattle.operation.specs.declared.Operation.the-variants.{Load, Store, Set, Add, Subtract, Skip, Fail, Divide}
-use Rattle.execution.specs.Entries.{Entry, lookup, update, append}
-use Rattle.execution.specs.Run.{Table, Stop, failed, overflowed, outside, get, put, go, halt, register, sum, move, Run, start, known, got, put-in, stopped, apply, due, due-at, obey, step, steps, whole}
+use Rattle.execution.specs.Entries.{lookup, update}
+use Rattle.execution.specs.Run.{Table, Stop, failed, overflowed, outside, get, put, go, halt, register, sum, move, Run, start, known, got, stopped, apply, due, due-at, obey, step, steps, whole}
 use Rattle.execution.specs.ReadAgreement.{both, put-either}
 use Rattle.execution.specs.RunShape.{lookup-update-other}
 use Rattle.model.specs.Lists.{any, all}
@@ -21,7 +21,8 @@ use Rattle.model.specs.ListLaws.{or-left, or-right}
 use Rattle.model.specs.Tests.{neither, all-weaker}
 use Rattle.model.specs.Serial.{is-some}
 use Rattle.model.specs.Replica.{Replica, committed-table}
-use Rattle.model.specs.Exchange.{Key, disjoint, apart, body-of, alone, may-pass, deliverable, pairwise, exchangeable, loaded, stored, is-at, loads, stores, leaves-alone, clear, bodies-apart, bodies-may-pass, exchangeable-by-bodies}
+use Rattle.model.specs.EntrySets.{Holds, holds-append, disjoint-by}
+use Rattle.model.specs.Exchange.{Key, apart, body-of, alone, may-pass, deliverable, pairwise, exchangeable, loaded, stored, is-at, loads, stores, leaves-alone, clear, bodies-apart, bodies-may-pass, exchangeable-by-bodies}
 
 -- ---- the operation that is due is one of the body's
 
@@ -40,28 +41,9 @@ due-in b p x e q h = by (p .outcome) e
 
 -- ---- a run's sets
 
-abbrev Holds : (ℕ → Bool) → List Entry → Type 0
-Holds f es = (o : ℕ) → is-some (lookup es o) ≡ true → f o ≡ true
-
 record Named (b : List Operation) (p : Run) : Type 0 where
   reads : Holds (loads b) (p .reads)
   writes : Holds (stores b) (p .writes)
-
-holds-append : (f : ℕ → Bool) (es : List Entry) (o : ℕ) (v : ℤ) → f o ≡ true → Holds f es → Holds f (append es o v)
-holds-append f [] o v e h i = by (eqb o i) refl
-  where
-    by : (b : Bool) → eqb o i ≡ b → is-some (cond b (some v) none) ≡ true → f i ≡ true
-    by true q s = ap f (sym (eqb-true o i q)) ∙ e
-    by false q s = absurd (false≢true s)
-holds-append f (x ∷ es) o v e h i = by (eqb (x .object) i) refl (holds-append f es o v e (λ k s. h k (later k (eqb (x .object) k) s)) i)
-  where
-    later : (k : ℕ) (b : Bool) → is-some (lookup es k) ≡ true → is-some (cond b (some (x .value)) (lookup es k)) ≡ true
-    later k true s = refl
-    later k false s = s
-
-    by : (b : Bool) → eqb (x .object) i ≡ b → (is-some (lookup (append es o v) i) ≡ true → f i ≡ true) → is-some (cond b (some (x .value)) (lookup (append es o v) i)) ≡ true → f i ≡ true
-    by true q k s = h i (rw q)
-    by false q k s = k s
 
 module _ (T : Table) (b : List Operation) where
   stop-named : (s : Stop) (p : Run) → Named b p → Named b (stopped s p)
@@ -134,27 +116,6 @@ clear-says (x ∷ b) d e o s =
         at true q s = rw (eqb-true i o q) at (neither (loads d i) (stores d i) (not-true (loads d i || stores d i) e))
         at false q s = k s
 
-disjoint-by : (f g : ℕ → Bool) (xs ys : List Entry) → Holds f xs → Holds g ys → ((o : ℕ) → f o ≡ true → g o ≡ false) → disjoint xs ys ≡ true
-unfolding disjoint
-disjoint-by f g xs ys h k apart-by = rw (nowhere xs h)
-  where
-    in-both : Entry → Bool
-    in-both x = is-some (lookup ys (x .object))
-
-    nowhere : (l : List Entry) → Holds f l → any in-both l ≡ false
-    nowhere [] h = refl
-    nowhere (x ∷ l) h = rw (not-there (in-both x) refl) (nowhere l (λ o s. h o (later o (eqb (x .object) o) s)))
-      where
-        later : (o : ℕ) (c : Bool) → is-some (lookup l o) ≡ true → is-some (cond c (some (x .value)) (lookup l o)) ≡ true
-        later o true s = refl
-        later o false s = s
-
-        not-there : (c : Bool) → in-both x ≡ c → c ≡ false
-        not-there false e = refl
-        not-there true e =
-            let stored-here = h (x .object) (rw (eq-eqb (x .object) (x .object) refl)) in
-            absurd (true≢false (sym (k (x .object) e) ∙ apart-by (x .object) stored-here))
-
 -- on every table
 pub runs-apart : (b d : List Operation) → bodies-apart b d ≡ true → (T : Table) → apart (whole T b) (whole T d) ≡ true
 unfolding apart bodies-apart
@@ -163,9 +124,9 @@ runs-apart b d e T =
     let p = whole-named T b in
     let q = whole-named T d in
     rw (
-      disjoint-by (stores b) (loads d) (whole T b .writes) (whole T d .reads) (p .writes) (q .reads) (λ o s. clear-says b d ahead o s .0),
-      disjoint-by (stores d) (loads b) (whole T d .writes) (whole T b .reads) (q .writes) (p .reads) (λ o s. clear-says d b back o s .0),
-      disjoint-by (stores b) (stores d) (whole T b .writes) (whole T d .writes) (p .writes) (q .writes) (λ o s. clear-says b d ahead o s .1),
+      disjoint-by (stores b) (loads d) (whole T d .reads) (q .reads) (λ o s. clear-says b d ahead o s .0) (whole T b .writes) (p .writes),
+      disjoint-by (stores d) (loads b) (whole T b .reads) (p .reads) (λ o s. clear-says d b back o s .0) (whole T d .writes) (q .writes),
+      disjoint-by (stores b) (stores d) (whole T d .writes) (q .writes) (λ o s. clear-says b d ahead o s .1) (whole T b .writes) (p .writes),
     )
 
 -- so what the bodies tell is enough
