@@ -5,6 +5,7 @@ pub mod Lookups
 pub mod CeilingOnAreas
 pub mod DryRunOnAreas
 pub mod ExchangeOnAreas
+pub mod ExchangeExample
 pub mod CasesOnAreas
 pub mod TwoKinds
 pub mod ContractTrace
