@@ -39,14 +39,15 @@ pub record Exchanged (l : Limits) (a : Areas) (j k : Key) : Type 0 where
   -- and the same newest values"
   pub values : values-on l (delivered-on l a (j ∷ k ∷ []) .1) ≡ values-on l (delivered-on l a (k ∷ j ∷ []) .1)
 
--- The same of more than two: each is accepted, and answers what its run on the table before them all gives.
-pub record InOrder (l : Limits) (a : Areas) (ks : List Key) : Type 0 where
+-- Of any number: each is accepted, and answers what its run on the table before them all gives.
+pub record AsAlone (l : Limits) (a : Areas) (ks : List Key) : Type 0 where
   pub accepted : all taken (delivered-on l a ks .0) ≡ true
   pub outcomes : map same-answer (delivered-on l a ks .0) ≡ map (λ k. answer-of (alone (parse l a) k)) ks
 
+-- in two orders
 pub record Reordered (l : Limits) (a : Areas) (ks ms : List Key) : Type 0 where
-  pub first : InOrder l a ks
-  pub second : InOrder l a ms
+  pub first : AsAlone l a ks
+  pub second : AsAlone l a ms
   pub values : values-on l (delivered-on l a ks .1) ≡ values-on l (delivered-on l a ms .1)
 
 all-typed : (ks : List Key) → All Typed (deliveries ks)
@@ -82,8 +83,8 @@ module _ {l : Limits} (x : Trace l) where
         ap (λ (r : List Answer × Areas). values-on l (r .1)) on-states
         ∙ ap newest-values (parse-print l (x .sane) after (calls-shaped l (x .sane) (deliveries ks) (last x) (last-shaped x) (all-typed ks)))
 
-    in-order : map same-answer (calls l (last x) (deliveries ks) .0) ≡ map (λ k. answer-of (alone (last x) k)) ks → InOrder l (areas x) ks
-    in-order h =
+    as-alone : map same-answer (calls l (last x) (deliveries ks) .0) ≡ map (λ k. answer-of (alone (last x) k)) ks → AsAlone l (areas x) ks
+    as-alone h =
         let outcomes = answers-on ∙ h ∙ ap (λ (u : Replica). map (λ k. answer-of (alone u k)) ks) (sym (replica-same x)) in
         record { accepted = all-taken (delivered-on l (areas x) ks .0) ∙ ap (all taken) outcomes ∙ yields ks; outcomes = outcomes }
       where
@@ -97,8 +98,8 @@ module _ {l : Limits} (x : Trace l) where
   reorder ks ms p e =
       let h = states.reordered l (last x) invariant (shaped-says l (last x) .0 (last-shaped x)) ks ms p (rw replica-same at e) in
       record {
-        first = in-order ks (h .first);
-        second = in-order ms (h .second);
+        first = as-alone ks (h .first);
+        second = as-alone ms (h .second);
         values = values-after ks ∙ h .values ∙ sym (values-after ms);
       }
 
