@@ -9,7 +9,7 @@ use lib.IntN.{ℤ, pos}
 use Rattle.arith.specs.Integer.{fits}
 use Rattle.operation.specs.Encode.{encode}
 use Rattle.operation.specs.declared.Operation.the-variants.{Load, Store, Set, Add}
-use Rattle.model.specs.Calls.{plain, Call, optimistic, execute, last-timestamp}
+use Rattle.model.specs.Calls.{Call, optimistic, execute, last-timestamp}
 use Rattle.model.specs.ShapeKept.{plain-typed}
 use Rattle.model.specs.Limits.{standard}
 use Rattle.model.specs.Replica.{Replica}
@@ -17,7 +17,7 @@ use Rattle.model.specs.Exchange.{Key, exchangeable, deliverable, may-pass, apar
 use Rattle.model.specs.Computing.{computing}
 use Rattle.layout.specs.Layout.{Areas, lengths}
 use Rattle.layout.specs.OffsetLaws.{standard-sane}
-use Rattle.agreement.specs.Trace.{Trace, areas, replica}
+use Rattle.agreement.specs.Trace.{Trace, areas}
 use Rattle.agreement.specs.TraceLaws.{trace-on, last, replica-same}
 use Rattle.agreement.specs.ExchangeOnAreas.{Exchanged, exchange}
 

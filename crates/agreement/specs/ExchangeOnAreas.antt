@@ -7,7 +7,8 @@ use Rattle.model.specs.declared.Limits.{Limits}
 use Rattle.model.specs.Lists.{all}
 use Rattle.model.specs.Interface.{Answer, refused, yielded}
 use Rattle.model.specs.Start.{start-of}
-use Rattle.model.specs.Replica.{Replica, calls}
+use Rattle.model.specs.Calls.{Facts}
+use Rattle.model.specs.Replica.{Replica, facts, calls}
 use Rattle.model.specs.ListLaws.{All}
 use Rattle.model.specs.Invariant.{Invariant, opened-invariant, calls-invariant}
 use Rattle.model.specs.ShapeCheck.{shaped-says}
@@ -27,6 +28,10 @@ use Rattle.agreement.specs.TraceLaws.{first, dated, last, last-shaped, a
 abbrev pub values-on : Limits → Areas → List ℤ
 values-on l a = newest-values (parse l a)
 
+-- all that refusals look at: the stamp, the last numbers, what is pending with its bodies, which readers are open
+abbrev pub facts-on : Limits → Areas → Facts
+facts-on l a = facts (parse l a)
+
 -- final deliveries one directly after the other: what they answer, and the areas after them
 abbrev pub delivered-on : Limits → Areas → List Key → List Answer × Areas
 delivered-on l a ks = acts l (deliveries ks) a
@@ -38,6 +43,8 @@ pub record Exchanged (l : Limits) (a : Areas) (j k : Key) : Type 0 where
   pub outcomes : map same-answer (delivered-on l a (j ∷ k ∷ []) .0) ≡ reverse (map same-answer (delivered-on l a (k ∷ j ∷ []) .0))
   -- and the same newest values"
   pub values : values-on l (delivered-on l a (j ∷ k ∷ []) .1) ≡ values-on l (delivered-on l a (k ∷ j ∷ []) .1)
+  -- beyond the paragraph: every call that comes next is judged alike
+  pub facts : facts-on l (delivered-on l a (j ∷ k ∷ []) .1) ≡ facts-on l (delivered-on l a (k ∷ j ∷ []) .1)
 
 -- Of any number: each is accepted, and answers what its run on the table before them all gives.
 pub record AsAlone (l : Limits) (a : Areas) (ks : List Key) : Type 0 where
@@ -49,6 +56,7 @@ pub record Reordered (l : Limits) (a : Areas) (ks ms : List Key) : Type 0 where
   pub first : AsAlone l a ks
   pub second : AsAlone l a ms
   pub values : values-on l (delivered-on l a ks .1) ≡ values-on l (delivered-on l a ms .1)
+  pub facts : facts-on l (delivered-on l a ks .1) ≡ facts-on l (delivered-on l a ms .1)
 
 all-typed : (ks : List Key) → All Typed (deliveries ks)
 all-typed [] = tt
@@ -77,11 +85,11 @@ module _ {l : Limits} (x : Trace l) where
     answers-on : map same-answer (delivered-on l (areas x) ks .0) ≡ map same-answer (calls l (last x) (deliveries ks) .0)
     answers-on = ap (λ (r : List Answer × Areas). map same-answer (r .0)) on-states
 
-    values-after : values-on l (delivered-on l (areas x) ks .1) ≡ newest-values after
+    replica-after : parse l (delivered-on l (areas x) ks .1) ≡ after
     unfolding after
-    values-after =
-        ap (λ (r : List Answer × Areas). values-on l (r .1)) on-states
-        ∙ ap newest-values (parse-print l (x .sane) after (calls-shaped l (x .sane) (deliveries ks) (last x) (last-shaped x) (all-typed ks)))
+    replica-after =
+        ap (λ (r : List Answer × Areas). parse l (r .1)) on-states
+        ∙ parse-print l (x .sane) after (calls-shaped l (x .sane) (deliveries ks) (last x) (last-shaped x) (all-typed ks))
 
     as-alone : map same-answer (calls l (last x) (deliveries ks) .0) ≡ map (λ k. answer-of (alone (last x) k)) ks → AsAlone l (areas x) ks
     as-alone h =
@@ -100,7 +108,8 @@ module _ {l : Limits} (x : Trace l) where
       record {
         first = as-alone ks (h .first);
         second = as-alone ms (h .second);
-        values = values-after ks ∙ h .values ∙ sym (values-after ms);
+        values = ap newest-values (replica-after ks) ∙ h .values ∙ sym (ap newest-values (replica-after ms));
+        facts = ap facts (replica-after ks) ∙ h .facts ∙ sym (ap facts (replica-after ms));
       }
 
   -- S-14
@@ -111,8 +120,12 @@ module _ {l : Limits} (x : Trace l) where
         accepted = rw (h .first .accepted, h .second .accepted);
         outcomes = h .first .outcomes ∙ sym (ap reverse (h .second .outcomes));
         values = h .values;
+        facts = h .facts;
       }
 
-  -- Told by the two bodies alone: no store of the one is of an object that the other loads or stores.
+  -- Told by the bodies alone: no store of one is of an object that another loads or stores.
+  pub reorder-by-bodies : (ks ms : List Key) → Permutation ks ms → exchangeable-by-bodies (replica x) ks ≡ true → Reordered l (areas x) ks ms
+  reorder-by-bodies ks ms p e = reorder ks ms p (by-bodies (replica x) ks e)
+
   pub exchange-by-bodies : (j k : Key) → exchangeable-by-bodies (replica x) (j ∷ k ∷ []) ≡ true → Exchanged l (areas x) j k
   exchange-by-bodies j k e = exchange j k (by-bodies (replica x) (j ∷ k ∷ []) e)

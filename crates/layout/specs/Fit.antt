@@ -25,6 +25,7 @@ use Rattle.model.specs.Calls.{clients, last-timestamp, Transaction}
 use Rattle.model.specs.Serial.{Version}
 use Rattle.model.specs.Replica.{Pending, Replica, opens}
 use Rattle.model.specs.ListLaws.{All, or-right}
+use Rattle.model.specs.Tests.{all-says}
 use Rattle.model.specs.EarlyResults.{sents}
 use Rattle.model.specs.Shape.{VersionsShape, Unspent, Sets, size-of, RunEncoded, bounds-fit, Shape}
 use Rattle.model.specs.ShapeRuns.{State, Standing, state-standing, in-order-states}
@@ -54,11 +55,6 @@ fit-says l a e =
     record { lengths = n; laid = o; shaped = s }
 
 -- ---- a shaped replica can be printed
-
--- a test that holds of each, as a fact of each
-all-says : {A : Type 0} (q : A → Bool) (P : A → Type 0) → ((a : A) → q a ≡ true → P a) → (l : List A) → all q l ≡ true → All P l
-all-says q P h [] e = tt
-all-says q P h (x ∷ l) e = let (a, b) = both (q x) (all q l) e in (h x a, all-says q P h l b)
 
 value : (z : ℤ) → fits z ≡ true → ValueFits z
 unfolding fits

@@ -14,6 +14,10 @@ use Rattle.model.specs.Tests.{neither}
 use Rattle.model.specs.Serial.{is-some}
 use Rattle.model.specs.Exchange.{disjoint}
 
+-- its object is one of the set's
+abbrev is-in : List Entry → Entry → Bool
+is-in es x = is-some (lookup es (x .object))
+
 -- an entry more hides none
 pub lookup-later : (x : Entry) (es : List Entry) (o : ℕ) → is-some (lookup es o) ≡ true → is-some (lookup (x ∷ es) o) ≡ true
 lookup-later x es o s = by (eqb (x .object) o)
@@ -31,18 +35,15 @@ pub disjoint-says : (xs ys : List Entry) → disjoint xs ys ≡ true → Disjoin
 unfolding disjoint
 disjoint-says xs ys e o = by (lookup ys o) refl
   where
-    in-both : Entry → Bool
-    in-both x = is-some (lookup ys (x .object))
-
-    absent : (l : List Entry) → any in-both l ≡ false → is-some (lookup ys o) ≡ true → lookup l o ≡ none
+    absent : (l : List Entry) → any (is-in ys) l ≡ false → is-some (lookup ys o) ≡ true → lookup l o ≡ none
     absent [] h s = refl
     absent (x ∷ l) h s =
-        let k = neither (in-both x) (any in-both l) h in
+        let k = neither (is-in ys x) (any (is-in ys) l) h in
         rw (ne-eqb (x .object) o (λ q. false≢true (sym (k .0) ∙ ap (λ (i : ℕ). is-some (lookup ys i)) q ∙ s))) (absent l (k .1) s)
 
     by : (k : Option ℤ) → lookup ys o ≡ k → (lookup xs o ≡ none) ⊎ (lookup ys o ≡ none)
     by none q = inr q
-    by (some v) q = inl (absent xs (not-true (any in-both xs) e) (ap is-some q))
+    by (some v) q = inl (absent xs (not-true (any (is-in ys) xs) e) (ap is-some q))
 
 pub disjoint-sym : (xs ys : List Entry) → Disjoint xs ys → Disjoint ys xs
 disjoint-sym xs ys h o = by (h o)
@@ -61,17 +62,17 @@ not-in xs ys h o s = by (h o)
 
 -- ---- a fact of every object that a set names
 
-abbrev pub Holds : (ℕ → Bool) → List Entry → Type 0
-Holds f es = (o : ℕ) → is-some (lookup es o) ≡ true → f o ≡ true
+abbrev pub OnEach : (ℕ → Bool) → List Entry → Type 0
+OnEach f es = (o : ℕ) → is-some (lookup es o) ≡ true → f o ≡ true
 
-pub holds-append : (f : ℕ → Bool) (es : List Entry) (o : ℕ) (v : ℤ) → f o ≡ true → Holds f es → Holds f (append es o v)
-holds-append f [] o v e h i = by (eqb o i) refl
+pub on-each-append : (f : ℕ → Bool) (es : List Entry) (o : ℕ) (v : ℤ) → f o ≡ true → OnEach f es → OnEach f (append es o v)
+on-each-append f [] o v e h i = by (eqb o i) refl
   where
     by : (b : Bool) → eqb o i ≡ b → is-some (cond b (some v) none) ≡ true → f i ≡ true
     by true q s = ap f (sym (eqb-true o i q)) ∙ e
     by false q s = absurd (false≢true s)
-holds-append f (x ∷ es) o v e h i =
-    by (eqb (x .object) i) refl (holds-append f es o v e (λ k s. h k (lookup-later x es k s)) i)
+on-each-append f (x ∷ es) o v e h i =
+    by (eqb (x .object) i) refl (on-each-append f es o v e (λ k s. h k (lookup-later x es k s)) i)
   where
     by : (b : Bool) → eqb (x .object) i ≡ b → (is-some (lookup (append es o v) i) ≡ true → f i ≡ true)
         → is-some (cond b (some (x .value)) (lookup (append es o v) i)) ≡ true → f i ≡ true
@@ -79,20 +80,17 @@ holds-append f (x ∷ es) o v e h i =
     by false q k s = k s
 
 -- where the facts exclude each other, so do the sets
-module _ (f g : ℕ → Bool) (ys : List Entry) (k : Holds g ys) (exclude : (o : ℕ) → f o ≡ true → g o ≡ false) where
-  abbrev in-both : Entry → Bool
-  in-both x = is-some (lookup ys (x .object))
-
-  nowhere : (xs : List Entry) → Holds f xs → any in-both xs ≡ false
+module _ (f g : ℕ → Bool) (ys : List Entry) (k : OnEach g ys) (exclude : (o : ℕ) → f o ≡ true → g o ≡ false) where
+  nowhere : (xs : List Entry) → OnEach f xs → any (is-in ys) xs ≡ false
   nowhere [] h = refl
-  nowhere (x ∷ xs) h = rw (absent (in-both x) refl) (nowhere xs (λ o s. h o (lookup-later x xs o s)))
+  nowhere (x ∷ xs) h = rw (absent (is-in ys x) refl) (nowhere xs (λ o s. h o (lookup-later x xs o s)))
     where
-      absent : (b : Bool) → in-both x ≡ b → b ≡ false
+      absent : (b : Bool) → is-in ys x ≡ b → b ≡ false
       absent false e = refl
       absent true e =
           let held = h (x .object) (rw (eq-eqb (x .object) (x .object) refl)) in
           absurd (true≢false (sym (k (x .object) e) ∙ exclude (x .object) held))
 
-  pub disjoint-by : (xs : List Entry) → Holds f xs → disjoint xs ys ≡ true
+  pub disjoint-by : (xs : List Entry) → OnEach f xs → disjoint xs ys ≡ true
   unfolding disjoint
   disjoint-by xs h = rw (nowhere xs h)

@@ -93,16 +93,16 @@ abbrev pub is-at : ℕ → Option ℕ → Bool
 is-at o none = false
 is-at o (some i) = eqb i o
 
-abbrev pub loads : List Operation → ℕ → Bool
-loads b o = any (λ (x : Operation). is-at o (loaded x)) b
+abbrev pub body-loads : List Operation → ℕ → Bool
+body-loads b o = any (λ (x : Operation). is-at o (loaded x)) b
 
-abbrev pub stores : List Operation → ℕ → Bool
-stores b o = any (λ (x : Operation). is-at o (stored x)) b
+abbrev pub body-stores : List Operation → ℕ → Bool
+body-stores b o = any (λ (x : Operation). is-at o (stored x)) b
 
 -- neither loaded nor stored by this body, if it is an object
 abbrev pub leaves-alone : List Operation → Option ℕ → Bool
 leaves-alone b none = true
-leaves-alone b (some o) = not (loads b o || stores b o)
+leaves-alone b (some o) = not (body-loads b o || body-stores b o)
 
 -- no store of b is of an object that d loads or stores
 unfoldable pub clear : List Operation → List Operation → Bool
@@ -114,20 +114,21 @@ bodies-apart b d = clear b d && clear d b
 unfoldable pub bodies-may-pass : Replica → Key → Key → Bool
 bodies-may-pass u j k = not (eqb (j .client) (k .client)) && bodies-apart (body-of u j) (body-of u k)
 
--- what a planner can tell without a run: more than is needed, never less
+-- what a planner can tell without a run: it asks for more than is needed, never for less
 unfoldable pub exchangeable-by-bodies : Replica → List Key → Bool
 exchangeable-by-bodies u ks = deliverable u ks && pairwise (bodies-may-pass u) ks
 
 -- ---- what is the same in every order
 
--- "the same two outcomes", and the number of objects stored. "Version stamps may differ", and so may kept or run again, and with it the operations.
-abbrev pub same-commit : Committed → Committed
-same-commit r = record { outcome = r .outcome; validated = false; timestamp = 0; stored = r .stored; operations = 0 }
+-- "the same two outcomes", and the number of objects stored. The commit's stamp follows the order; kept or run again may differ, and the operations with it.
+abbrev pub same-delivery : Committed → Committed
+same-delivery r = record { outcome = r .outcome; validated = false; timestamp = 0; stored = r .stored; operations = 0 }
 
+-- of a delivery; no other yield occurs here
 abbrev pub same-yield : Yield → Yield
 same-yield done = done
 same-yield (executed n f) = executed n f
-same-yield (committed r) = committed (same-commit r)
+same-yield (committed r) = committed (same-delivery r)
 same-yield (observed o) = observed o
 
 abbrev pub same-answer : Answer → Answer
@@ -138,6 +139,6 @@ same-answer (yielded y) = yielded (same-yield y)
 abbrev pub answer-of : Run → Answer
 answer-of p = yielded (committed (record { outcome = p .outcome; validated = false; timestamp = 0; stored = length (p .writes); operations = 0 }))
 
--- "the same newest values"
+-- "the same newest values. Version stamps may differ."
 abbrev pub newest-values : Replica → List ℤ
 newest-values u = map (λ vs. newest vs .value) (u .objects)

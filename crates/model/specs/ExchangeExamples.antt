@@ -72,6 +72,10 @@ sets = encode (Set 0 (pos 7) ∷ Store 0 1 ∷ [])
 abbrev fails : List ℕ
 fails = encode (Set 0 (pos 9) ∷ Store 0 1 ∷ Load 1 1 ∷ Fail ∷ [])
 
+-- a store that is never carried out
+abbrev fails-first : List ℕ
+fails-first = encode (Fail ∷ Store 0 1 ∷ [])
+
 abbrev key : ℕ → ℕ → Key
 key c s = record { client = c; sequence = s }
 
@@ -93,13 +97,13 @@ stamps w x y z = w ∷ x ∷ y ∷ z ∷ []
 -- ---- neighbours that may change places: the outcomes and the values are the same
 
 abbrev two-apart : Replica
-two-apart = after 7 (optimistic 1 1 adds ∷ optimistic 2 1 moves ∷ execute 9 ∷ [])
+two-apart = after 7 (optimistic 1 1 adds ∷ optimistic 2 1 moves ∷ execute 4 ∷ [])
 
--- the stamps of the versions differ
+-- the first is finished early; the stamps of the versions differ
 pub apart-exchanged :
     (exchangeable two-apart (key 1 1 ∷ key 2 1 ∷ []) ≡ true)
-    × (delivered two-apart (key 1 1 ∷ key 2 1 ∷ []) ≡ (committed 0 true 8 1 0 ∷ committed 0 true 9 1 0 ∷ [], (values 15 20 30 30, stamps 8 7 7 9)))
-    × (delivered two-apart (key 2 1 ∷ key 1 1 ∷ []) ≡ (committed 0 true 8 1 0 ∷ committed 0 true 9 1 0 ∷ [], (values 15 20 30 30, stamps 9 7 7 8)))
+    × (delivered two-apart (key 1 1 ∷ key 2 1 ∷ []) ≡ (committed 0 true 8 1 0 ∷ committed 0 false 9 1 2 ∷ [], (values 15 20 30 30, stamps 8 7 7 9)))
+    × (delivered two-apart (key 2 1 ∷ key 1 1 ∷ []) ≡ (committed 0 false 8 1 2 ∷ committed 0 true 9 1 0 ∷ [], (values 15 20 30 30, stamps 9 7 7 8)))
 unfolding computing deliverable exchangeable may-pass apart disjoint alone
 apart-exchanged = (refl, refl, refl)
 
@@ -132,12 +136,12 @@ three-apart = after 7 (optimistic 1 1 adds ∷ optimistic 2 1 moves ∷ optimist
 
 pub three-reordered :
     (exchangeable three-apart (key 1 1 ∷ key 2 1 ∷ key 3 1 ∷ []) ≡ true)
-    × (delivered three-apart (key 1 1 ∷ key 2 1 ∷ key 3 1 ∷ []) .1 ≡ (values 15 7 30 30, stamps 8 10 7 9))
-    × (delivered three-apart (key 3 1 ∷ key 1 1 ∷ key 2 1 ∷ []) .1 ≡ (values 15 7 30 30, stamps 9 8 7 10))
+    × (delivered three-apart (key 1 1 ∷ key 2 1 ∷ key 3 1 ∷ []) ≡ (committed 0 false 8 1 4 ∷ committed 0 false 9 1 2 ∷ committed 0 false 10 1 2 ∷ [], (values 15 7 30 30, stamps 8 10 7 9)))
+    × (delivered three-apart (key 3 1 ∷ key 1 1 ∷ key 2 1 ∷ []) ≡ (committed 0 false 8 1 2 ∷ committed 0 false 9 1 4 ∷ committed 0 false 10 1 2 ∷ [], (values 15 7 30 30, stamps 9 8 7 10)))
 unfolding computing deliverable exchangeable may-pass apart disjoint alone
 three-reordered = (refl, refl, refl)
 
--- ---- why each part of the condition is there: where one is missing the exchange tells
+-- ---- why each part of the condition is there: a pair that lacks that part alone, in both orders
 
 -- stamps left for both, both pending, different clients; then: the first stores nothing that the second reads, the second nothing that the first reads,
 -- and no object is stored by both
@@ -166,7 +170,7 @@ pub stored-then-read :
 unfolding computing deliverable exchangeable may-pass apart disjoint alone
 stored-then-read = (refl, refl, refl, refl)
 
--- the second stores what the first reads
+-- the second stores what the first reads: the same two, the other one first, with the orders above
 pub read-then-stored :
     (parts fills-first (key 2 1) (key 1 1) ≡ true ∷ true ∷ true ∷ true ∷ true ∷ false ∷ true ∷ [])
     × (exchangeable fills-first (key 2 1 ∷ key 1 1 ∷ []) ≡ false)
@@ -180,8 +184,8 @@ fills-and-drains = after 7 (optimistic 1 1 fills ∷ optimistic 2 1 drains ∷ [
 pub stored-by-both :
     (parts fills-and-drains (key 1 1) (key 2 1) ≡ true ∷ true ∷ true ∷ true ∷ true ∷ true ∷ false ∷ [])
     × (exchangeable fills-and-drains (key 1 1 ∷ key 2 1 ∷ []) ≡ false)
-    × (delivered fills-and-drains (key 1 1 ∷ key 2 1 ∷ []) .1 ≡ (values 3 20 30 40, stamps 9 7 7 7))
-    × (delivered fills-and-drains (key 2 1 ∷ key 1 1 ∷ []) .1 ≡ (values 48 20 30 40, stamps 9 7 7 7))
+    × (delivered fills-and-drains (key 1 1 ∷ key 2 1 ∷ []) ≡ (committed 0 false 8 1 2 ∷ committed 0 false 9 1 2 ∷ [], (values 3 20 30 40, stamps 9 7 7 7)))
+    × (delivered fills-and-drains (key 2 1 ∷ key 1 1 ∷ []) ≡ (committed 0 false 8 1 2 ∷ committed 0 false 9 1 2 ∷ [], (values 48 20 30 40, stamps 9 7 7 7)))
 unfolding computing deliverable exchangeable may-pass apart disjoint alone
 stored-by-both = (refl, refl, refl, refl)
 
@@ -211,15 +215,32 @@ pub last-stamp :
 unfolding computing deliverable exchangeable may-pass apart disjoint alone
 last-stamp = (refl, refl, refl, refl, refl, refl)
 
--- not pending
+-- not pending: it is refused in either order, and nothing else differs
 pub not-delivered-early :
     (parts two-apart (key 1 1) (key 3 1) ≡ true ∷ true ∷ false ∷ true ∷ true ∷ true ∷ true ∷ [])
     × (exchangeable two-apart (key 1 1 ∷ key 3 1 ∷ []) ≡ false)
     × (delivered two-apart (key 1 1 ∷ key 3 1 ∷ []) .0 ≡ committed 0 true 8 1 0 ∷ refused 8 ∷ [])
+    × (delivered two-apart (key 3 1 ∷ key 1 1 ∷ []) .0 ≡ refused 8 ∷ committed 0 true 8 1 0 ∷ [])
 unfolding computing deliverable exchangeable may-pass apart disjoint alone
-not-delivered-early = (refl, refl, refl)
+not-delivered-early = (refl, refl, refl, refl)
+
+-- of three the first and the last, though each is apart from the one between them
+abbrev ends-meet : Replica
+ends-meet = after 7 (optimistic 1 1 fills ∷ optimistic 3 1 moves ∷ optimistic 2 1 tops ∷ [])
+
+pub neighbours-alone :
+    (exchangeable ends-meet (key 1 1 ∷ key 3 1 ∷ []) ≡ true)
+    × (exchangeable ends-meet (key 3 1 ∷ key 2 1 ∷ []) ≡ true)
+    × (exchangeable ends-meet (key 1 1 ∷ key 3 1 ∷ key 2 1 ∷ []) ≡ false)
+    × (delivered ends-meet (key 1 1 ∷ key 3 1 ∷ key 2 1 ∷ []) .1 .0 ≡ values 48 20 30 30)
+    × (delivered ends-meet (key 2 1 ∷ key 3 1 ∷ key 1 1 ∷ []) .1 .0 ≡ values 48 15 30 30)
+unfolding computing deliverable exchangeable may-pass apart disjoint alone
+neighbours-alone = (refl, refl, refl, refl, refl)
 
 -- ---- told by the bodies alone
+
+abbrev never-stored : Replica
+never-stored = after 7 (optimistic 1 1 fails-first ∷ optimistic 2 1 sets ∷ [])
 
 -- every load and every store counts, carried out or not
 pub bodies-hold :
@@ -229,6 +250,7 @@ pub bodies-hold :
     × (exchangeable-by-bodies fills-and-drains (key 1 1 ∷ key 2 1 ∷ []) ≡ false)
     × (exchangeable-by-bodies one-client (key 1 1 ∷ key 1 2 ∷ []) ≡ false)
     × (exchangeable-by-bodies one-stamp (key 1 1 ∷ key 2 1 ∷ []) ≡ false)
-    × (exchangeable-by-bodies one-fails (key 1 1 ∷ key 2 1 ∷ []) ≡ false)
-unfolding computing deliverable exchangeable-by-bodies bodies-may-pass bodies-apart clear
-bodies-hold = (refl, refl, refl, refl, refl, refl, refl)
+    × (exchangeable-by-bodies never-stored (key 1 1 ∷ key 2 1 ∷ []) ≡ false)
+    × (exchangeable never-stored (key 1 1 ∷ key 2 1 ∷ []) ≡ true)
+unfolding computing deliverable exchangeable may-pass apart disjoint alone exchangeable-by-bodies bodies-may-pass bodies-apart clear
+bodies-hold = (refl, refl, refl, refl, refl, refl, refl, refl)

@@ -1,15 +1,16 @@
 -- Deliveries that are apart pair by pair, in any order: each gives what its run on the table before them gives, and the newest values after them are the
 -- same. The pair that changes places is the list of two. Assumes nothing.
-use mathlib.Core.Path.{_≡_, refl, sym, ap, ap₂, _∙_, subst, fun-ext}
+use mathlib.Core.Path.{_≡_, refl, sym, ap, ap₂, _∙_, fun-ext}
 use mathlib.Core.Logic.{_⊎_, inl, inr}
-use mathlib.Core.Bool.{Bool, true, false, not, _&&_, _||_, false≢true}
+use mathlib.Core.Bool.{Bool, true, not, _&&_}
 use mathlib.Core.Option.{Option, none, some, Option·getD, Option·none-ne-some}
 use mathlib.Core.List.{List, [], _∷_, map, map-map, List·Permᴰ·nil, List·Permᴰ·cons, List·Permᴰ·swap, List·Permᴰ·trans}
-use Prim.Native.Nat.{ℕ, zero, suc, _+_, _≤_, _<_}
+use Prim.Native.Nat.{ℕ, suc, _+_, _≤_, _<_}
 use native.Mathlib.Omega.{arith}
-use lib.IntN.{ℤ, pos}
+use lib.IntN.{ℤ}
 use lib.Dec.{eqb, leb}
-use lib.ListN.{length, getD, List·getD-map}
+use lib.ListN.{length, set}
+use lib.Seq.{set-comm}
 use borrow.Author.Tests.{eq-eqb, eqb-true, eqb-false, ne-eqb, leb-true, lt-leb, not-true}
 use Rattle.arith.specs.Integer.{eq-z}
 use Rattle.operation.specs.Body.{operations}
@@ -18,24 +19,26 @@ use Rattle.execution.specs.Entries.{Entry, lookup}
 use Rattle.execution.specs.Run.{Table, Run, or-else, whole, matches}
 use Rattle.execution.specs.ReadAgreement.{both, whole-agree}
 use Rattle.model.specs.declared.Limits.{Limits}
-use Rattle.model.specs.Lists.{pick, keep, any, all, mapi}
+use Rattle.model.specs.Lists.{pick, keep, all, mapi}
 use Rattle.model.specs.Interface.{Answer}
-use Rattle.model.specs.Calls.{Transaction, is-key, leaves, bytes-of, clients, spent, last-timestamp, causes, refusal}
+use Rattle.model.specs.Calls.{Transaction, Facts, is-key, leaves, bytes-of, clients, last-timestamp, causes, refusal}
 use Rattle.model.specs.Start.{Version}
 use Rattle.model.specs.Serial.{is-some}
 use Rattle.model.specs.Replica.{Pending, Replica, newest, opens, prune, pushed, install, committed-table, keyed, stays, result, facts, commit, delivered, perform, call, calls}
 use Rattle.model.specs.ListLaws.{All, all-implies, all-both, any-map, map-all, map-keep, map-mapi, pick-keep}
 use Rattle.model.specs.Tests.{all-says, any-pick, pick-passes}
-use Rattle.model.specs.VersionLaws.{newest-prune}
+use Rattle.model.specs.VersionLaws.{newest-prune, length-install}
 use Rattle.model.specs.EarlyResults.{sents, walk-sents, result-whole}
 use Rattle.model.specs.Invariant.{Invariant, call-invariant}
+use Rattle.model.specs.Untouched.{newest-unwritten}
 use Rattle.model.specs.Correspondence.{picked-bytes, keyed-somewhere}
 use Rattle.model.specs.Validation.{steps-match}
-use Rattle.model.specs.Shape.{Unspent, Shape}
+use Rattle.model.specs.Shape.{Shape}
+use Rattle.model.specs.ShapeParts.{pending-unspent}
 use Rattle.model.specs.ShapeKept.{call-shape}
 use Rattle.model.specs.EntrySets.{Disjoint, disjoint-says, disjoint-sym, not-in, lookup-later}
 use Rattle.model.specs.Exchange.{Key, deliver, deliveries, disjoint, apart, body-of, alone, may-pass, is-pending, deliverable, pairwise, exchangeable, same-answer, answer-of, newest-values}
-use Rattle.model.specs.Reordering.{Permutation, Pairwise, length-reordered, all-reordered, pairwise-reordered, pairwise-implies}
+use Rattle.model.specs.Reordering.{Permutation, Pairwise, length-reordered, all-reordered, pairwise-reordered, pairwise-implies, keep-swap}
 
 -- ---- the condition as facts
 
@@ -109,11 +112,6 @@ over-twice f g (x ∷ xs) = ap₂ _∷_ (by (f 0)) (over-twice (λ o. f (suc o))
     by none = refl
     by (some v) = refl
 
-over-other : (f : ℕ → Option ℤ) (xs : List ℤ) (o : ℕ) (d : ℤ) → f o ≡ none → getD (over-values f xs) o d ≡ getD xs o d
-over-other f [] o d e = refl
-over-other f (x ∷ xs) zero d e = rw e
-over-other f (x ∷ xs) (suc o) d e = over-other (λ o. f (suc o)) xs o d e
-
 -- what these runs store at an object: the last that stores it
 abbrev stored-by : List Run → ℕ → Option ℤ
 stored-by [] o = none
@@ -142,6 +140,44 @@ stored-reordered u (List·Permᴰ·swap {a} {b} {a′} {b′} {l} e f) h o =
 stored-reordered u (List·Permᴰ·trans d e) h o =
     stored-reordered u d h o ∙ stored-reordered u e (pairwise-reordered (MayPass u) (may-pass-sym u) d h) o
 
+-- ---- what refusals look at
+
+-- after one delivery
+abbrev passed : Key → Facts → Facts
+passed k f =
+    record {
+      size = f .size;
+      timestamp = suc (f .timestamp);
+      lasts = set (f .lasts) (k .client) (k .sequence);
+      queue = keep (λ j. not (leaves (k .client) (k .sequence) j)) (f .queue);
+      opened = f .opened;
+    }
+
+all-passed : List Key → Facts → Facts
+all-passed [] f = f
+all-passed (k ∷ ks) f = all-passed ks (passed k f)
+
+passed-swap : (j k : Key) → (j .client ≡ k .client → ⊥) → (f : Facts) → passed j (passed k f) ≡ passed k (passed j f)
+passed-swap j k differ f i =
+    record {
+      size = f .size;
+      timestamp = suc (suc (f .timestamp));
+      lasts = set-comm (f .lasts) (k .client) (j .client) (k .sequence) (j .sequence) (λ e. differ (sym e)) i;
+      queue = keep-swap (λ t. not (leaves (j .client) (j .sequence) t)) (λ t. not (leaves (k .client) (k .sequence) t)) (f .queue) i;
+      opened = f .opened;
+    }
+
+facts-reordered : (u : Replica) {ks ms : List Key} → Permutation ks ms → Pairwise (MayPass u) ks → (f : Facts) → all-passed ks f ≡ all-passed ms f
+unfolding all-passed
+facts-reordered u List·Permᴰ·nil h f = refl
+facts-reordered u (List·Permᴰ·cons {a} {b} {l₁} {l₂} e d) h f =
+    facts-reordered u d (h .1) (passed a f) ∙ ap (λ (k : Key). all-passed l₂ (passed k f)) e
+facts-reordered u (List·Permᴰ·swap {a} {b} {a′} {b′} {l} e q) h f =
+    ap (all-passed l) (passed-swap b a (λ i. h .0 .0 .clients-differ (sym i)) f)
+    ∙ ap₂ (λ (j k : Key). all-passed l (passed j (passed k f))) e q
+facts-reordered u (List·Permᴰ·trans d e) h f =
+    facts-reordered u d h f ∙ facts-reordered u e (pairwise-reordered (MayPass u) (may-pass-sym u) d h) f
+
 -- ---- a table that has the values a run read
 
 whole-matches : (T : Table) (b : List Operation) → matches T (whole T b .reads) ≡ true
@@ -156,20 +192,6 @@ matches-too S T (x ∷ es) f e =
     rw (here, h .0) (matches-too S T es (λ o i. f o (lookup-later x es o i)) (h .1))
 
 -- ---- one delivery
-
--- a key that is pending among unspent ones
-unspent-key : (lasts : List ℕ) (c s : ℕ) (ts : List Transaction) → All (Unspent lasts) ts → any (is-key c s) ts ≡ true → (c < clients) × (spent lasts c s ≡ false)
-unspent-key lasts c s [] a e = absurd (false≢true e)
-unspent-key lasts c s (t ∷ ts) a e = by (is-key c s t) refl e (unspent-key lasts c s ts (a .1))
-  where
-    by : (b : Bool) → is-key c s t ≡ b → b || any (is-key c s) ts ≡ true → (any (is-key c s) ts ≡ true → (c < clients) × (spent lasts c s ≡ false))
-        → (c < clients) × (spent lasts c s ≡ false)
-    by true q e i =
-        let same = both (eqb (t .client) c) (eqb (t .sequence) s) q in
-        let client = eqb-true (t .client) c (same .0) in
-        let sequence = eqb-true (t .sequence) s (same .1) in
-        (subst (λ (x : ℕ). x < clients) client (a .0 .client), ap₂ (spent lasts) (sym client) (sym sequence) ∙ a .0 .above)
-    by false q e i = i e
 
 abbrev after : Replica → Key → Replica
 after u k = delivered u (k .client) (k .sequence) .1
@@ -209,22 +231,29 @@ module _ (l : Limits) (u : Replica) (v : Invariant l u) (k : Key) where
       pushed-value vs none = refl
       pushed-value vs (some z) = refl
 
-  value-at : (w : Replica) (o : ℕ) → getD (newest-values w) o (pos 0) ≡ committed-table w .look o
-  value-at w o = List·getD-map (λ vs. newest vs .value) (w .objects) o []
-
   -- an object that it does not store keeps its value
   look-after : (o : ℕ) → lookup (alone u k .writes) o ≡ none → committed-table (after u k) .look o ≡ T .look o
+  unfolding commit
   look-after o e =
-      sym (value-at (after u k) o)
-      ∙ ap (λ (xs : List ℤ). getD xs o (pos 0)) values-after
-      ∙ over-other (lookup (alone u k .writes)) (newest-values u) o (pos 0) e
-      ∙ value-at u o
+      let unwritten = newest-unwritten l o (suc (u .timestamp)) (opens (u .readers)) (result T (keyed u c s) .writes) (u .objects) (rw result-alone (ap is-some e)) in
+      ap (λ (x : Version). x .value) unwritten
 
   queue-after : sents (after u k .pending) ≡ keep (λ j. not (leaves c s j)) (sents (u .pending))
   unfolding commit
   queue-after =
       walk-sents (committed-table (after u k)) (keep (stays c s) (u .pending))
       ∙ map-keep (λ (j : Pending). j .sent) (λ j. not (leaves c s j)) (u .pending)
+
+  facts-after : facts (after u k) ≡ passed k (facts u)
+  unfolding commit facts
+  facts-after i =
+      record {
+        size = length-install (suc (u .timestamp)) (opens (u .readers)) (result T (keyed u c s) .writes) (u .objects) i;
+        timestamp = suc (u .timestamp);
+        lasts = set (u .lasts) c s;
+        queue = queue-after i;
+        opened = map is-some (u .readers);
+      }
 
   -- another client's transaction neither leaves nor changes its body
   module _ (j : Key) (differ : k .client ≡ j .client → ⊥) where
@@ -263,11 +292,11 @@ module _ (l : Limits) (u : Replica) (v : Invariant l u) (k : Key) where
         unchanged o e = look-after o (not-in (alone u k .writes) (alone u j .reads) apart-reads o e)
 
   -- "two pending jobs .. with stamps left": pending keys are those of clients, and unspent
-  taken : Shape l u → is-pending u k ≡ true → u .timestamp < last-timestamp → refusal l (facts u) (deliver k) ≡ 0
+  is-taken : Shape l u → is-pending u k ≡ true → u .timestamp < last-timestamp → refusal l (facts u) (deliver k) ≡ 0
   unfolding refusal causes facts
-  taken h waits room =
+  is-taken h waits room =
       let queued = any-map (λ (j : Pending). j .sent) (is-key c s) (u .pending) ∙ waits in
-      let fresh = unspent-key (u .lasts) c s (sents (u .pending)) (h .unspent) queued in
+      let fresh = pending-unspent (u .lasts) c s (sents (u .pending)) (h .unspent) queued in
       rw (lt-leb clients c (fresh .0), fresh .1, queued, lt-leb last-timestamp (u .timestamp) room)
 
   -- what it answers, and where it leads
@@ -281,6 +310,7 @@ module _ (l : Limits) (u : Replica) (v : Invariant l u) (k : Key) where
 record InTurn (u : Replica) (ks : List Key) (r : List Answer × Replica) : Type 0 where
   answers : map same-answer (r .0) ≡ map answer-of (runs u ks)
   values : newest-values (r .1) ≡ over-values (stored-by (runs u ks)) (newest-values u)
+  facts : facts (r .1) ≡ all-passed ks (facts u)
 
 module _ (l : Limits) where
   -- what is left of the condition after one of them
@@ -310,13 +340,13 @@ module _ (l : Limits) where
     next = call l u (deliver k) .1
 
     one : (same-answer (call l u (deliver k) .0) ≡ answer-of (alone u k)) × (next ≡ after u k)
-    one = delivers l u v k (taken l u v k h (x .pending .0) (omega (arith, x .timestamps)))
+    one = delivers l u v k (is-taken l u v k h (x .pending .0) (omega (arith, x .timestamps)))
 
     still-exchangeable : Exchangeable next ks
     still-exchangeable = rw (one .1) (exchangeable-after u v k ks x .1)
 
     one-more : InTurn next ks (calls l next (deliveries ks)) → InTurn u (k ∷ ks) (calls l u (deliveries (k ∷ ks)))
-    unfolding calls
+    unfolding calls all-passed
     one-more others =
         let same-runs = ap (λ (y : Replica). runs y ks) (one .1) ∙ map-all (alone (after u k)) (alone u) ks (exchangeable-after u v k ks x .0) in
         let first-values = ap newest-values (one .1) ∙ values-after l u v k in
@@ -325,11 +355,12 @@ module _ (l : Limits) where
           values = others .values
               ∙ ap₂ over-values (ap stored-by same-runs) first-values
               ∙ over-twice (stored-by (runs u ks)) (lookup (alone u k .writes)) (newest-values u);
+          facts = others .facts ∙ ap (all-passed ks) (ap facts (one .1) ∙ facts-after l u v k);
         }
 
   in-turn : (ks : List Key) (u : Replica) → Invariant l u → Shape l u → Exchangeable u ks → InTurn u ks (calls l u (deliveries ks))
-  unfolding calls
-  in-turn [] u v h x = record { answers = refl; values = sym (over-none (newest-values u)) }
+  unfolding calls all-passed
+  in-turn [] u v h x = record { answers = refl; values = sym (over-none (newest-values u)); facts = refl }
   in-turn (k ∷ ks) u v h x =
       one-more u v h k ks x
       (in-turn ks (call l u (deliver k) .1) (call-invariant l u v (deliver k)) (call-shape l u h (deliver k) tt) (still-exchangeable u v h k ks x))
@@ -339,6 +370,7 @@ module _ (l : Limits) where
     pub first : map same-answer (r .0) ≡ map (λ k. answer-of (alone u k)) ks
     pub second : map same-answer (q .0) ≡ map (λ k. answer-of (alone u k)) ms
     pub values : newest-values (r .1) ≡ newest-values (q .1)
+    pub facts : facts (r .1) ≡ facts (q .1)
 
   pub reordered : (u : Replica) → Invariant l u → Shape l u → (ks ms : List Key) → Permutation ks ms → exchangeable u ks ≡ true
       → Reordered u ks ms (calls l u (deliveries ks)) (calls l u (deliveries ms))
@@ -357,4 +389,5 @@ module _ (l : Limits) where
         values = one-way .values
             ∙ ap (λ (f : ℕ → Option ℤ). over-values f (newest-values u)) (fun-ext (stored-reordered u p (x .passing)))
             ∙ sym (other-way .values);
+        facts = one-way .facts ∙ facts-reordered u p (x .passing) (facts u) ∙ sym (other-way .facts);
       }

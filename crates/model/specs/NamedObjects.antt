@@ -21,8 +21,8 @@ use Rattle.model.specs.ListLaws.{or-left, or-right}
 use Rattle.model.specs.Tests.{neither, all-weaker}
 use Rattle.model.specs.Serial.{is-some}
 use Rattle.model.specs.Replica.{Replica, committed-table}
-use Rattle.model.specs.EntrySets.{Holds, holds-append, disjoint-by}
-use Rattle.model.specs.Exchange.{Key, apart, body-of, alone, may-pass, deliverable, pairwise, exchangeable, loaded, stored, is-at, loads, stores, leaves-alone, clear, bodies-apart, bodies-may-pass, exchangeable-by-bodies}
+use Rattle.model.specs.EntrySets.{OnEach, on-each-append, disjoint-by}
+use Rattle.model.specs.Exchange.{Key, apart, body-of, alone, may-pass, deliverable, pairwise, exchangeable, loaded, stored, is-at, body-loads, body-stores, leaves-alone, clear, bodies-apart, bodies-may-pass, exchangeable-by-bodies}
 
 -- ---- the operation that is due is one of the body's
 
@@ -42,8 +42,8 @@ due-in b p x e q h = by (p .outcome) e
 -- ---- a run's sets
 
 record Named (b : List Operation) (p : Run) : Type 0 where
-  reads : Holds (loads b) (p .reads)
-  writes : Holds (stores b) (p .writes)
+  reads : OnEach (body-loads b) (p .reads)
+  writes : OnEach (body-stores b) (p .writes)
 
 module _ (T : Table) (b : List Operation) where
   stop-named : (s : Stop) (p : Run) → Named b p → Named b (stopped s p)
@@ -65,13 +65,13 @@ module _ (T : Table) (b : List Operation) where
         by : (k : Option ℤ) → Named b (got T r o p k)
         by (some v) = record { reads = h .reads; writes = h .writes }
         by none =
-            record { reads = holds-append (loads b) (p .reads) o (T .look o) (in-body (λ (y : Operation). is-at o (loaded y)) (rw (e, eq-eqb o o refl))) (h .reads); writes = h .writes }
+            record { reads = on-each-append (body-loads b) (p .reads) o (T .look o) (in-body (λ (y : Operation). is-at o (loaded y)) (rw (e, eq-eqb o o refl))) (h .reads); writes = h .writes }
 
     store-named : (o : ℕ) (v : ℤ) → stored x ≡ some o → Named b (apply T (put o v) p)
     store-named o v e =
         put-either (Named b) T o v p (record { reads = h .reads; writes = λ i s. by i (eqb i o) refl s }) (stop-named outside p h)
       where
-        by : (i : ℕ) (k : Bool) → eqb i o ≡ k → is-some (lookup (update (p .writes) o v) i) ≡ true → stores b i ≡ true
+        by : (i : ℕ) (k : Bool) → eqb i o ≡ k → is-some (lookup (update (p .writes) o v) i) ≡ true → body-stores b i ≡ true
         by i true q s = in-body (λ (y : Operation). is-at i (stored y)) (rw (e, eqb-true i o q, eq-eqb o o refl))
         by i false q s = h .writes i (rw (← (lookup-update-other (p .writes) o v i (eqb-false i o q))) s)
 
@@ -101,19 +101,19 @@ module _ (T : Table) (b : List Operation) where
 
 -- ---- bodies
 
-clear-says : (b d : List Operation) → clear b d ≡ true → (o : ℕ) → stores b o ≡ true → (loads d o ≡ false) × (stores d o ≡ false)
+clear-says : (b d : List Operation) → clear b d ≡ true → (o : ℕ) → body-stores b o ≡ true → (body-loads d o ≡ false) × (body-stores d o ≡ false)
 unfolding clear
 clear-says [] d e o s = absurd (false≢true s)
 clear-says (x ∷ b) d e o s =
     let k = both (leaves-alone d (stored x)) (all (λ (y : Operation). leaves-alone d (stored y)) b) e in
     by (stored x) (k .0) s (clear-says b d (k .1) o)
   where
-    by : (i : Option ℕ) → leaves-alone d i ≡ true → is-at o i || stores b o ≡ true → (stores b o ≡ true → (loads d o ≡ false) × (stores d o ≡ false)) → (loads d o ≡ false) × (stores d o ≡ false)
+    by : (i : Option ℕ) → leaves-alone d i ≡ true → is-at o i || body-stores b o ≡ true → (body-stores b o ≡ true → (body-loads d o ≡ false) × (body-stores d o ≡ false)) → (body-loads d o ≡ false) × (body-stores d o ≡ false)
     by none e s k = k s
     by (some i) e s k = at (eqb i o) refl s
       where
-        at : (c : Bool) → eqb i o ≡ c → c || stores b o ≡ true → (loads d o ≡ false) × (stores d o ≡ false)
-        at true q s = rw (eqb-true i o q) at (neither (loads d i) (stores d i) (not-true (loads d i || stores d i) e))
+        at : (c : Bool) → eqb i o ≡ c → c || body-stores b o ≡ true → (body-loads d o ≡ false) × (body-stores d o ≡ false)
+        at true q s = rw (eqb-true i o q) at (neither (body-loads d i) (body-stores d i) (not-true (body-loads d i || body-stores d i) e))
         at false q s = k s
 
 -- on every table
@@ -124,9 +124,9 @@ runs-apart b d e T =
     let p = whole-named T b in
     let q = whole-named T d in
     rw (
-      disjoint-by (stores b) (loads d) (whole T d .reads) (q .reads) (λ o s. clear-says b d ahead o s .0) (whole T b .writes) (p .writes),
-      disjoint-by (stores d) (loads b) (whole T b .reads) (p .reads) (λ o s. clear-says d b back o s .0) (whole T d .writes) (q .writes),
-      disjoint-by (stores b) (stores d) (whole T d .writes) (q .writes) (λ o s. clear-says b d ahead o s .1) (whole T b .writes) (p .writes),
+      disjoint-by (body-stores b) (body-loads d) (whole T d .reads) (q .reads) (λ o s. clear-says b d ahead o s .0) (whole T b .writes) (p .writes),
+      disjoint-by (body-stores d) (body-loads b) (whole T b .reads) (p .reads) (λ o s. clear-says d b back o s .0) (whole T d .writes) (q .writes),
+      disjoint-by (body-stores b) (body-stores d) (whole T d .writes) (q .writes) (λ o s. clear-says b d ahead o s .1) (whole T b .writes) (p .writes),
     )
 
 -- so what the bodies tell is enough

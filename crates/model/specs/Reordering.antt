@@ -1,8 +1,10 @@
 -- Lists in another order: what holds of every element, or of every two, holds there too. Assumes nothing.
 use mathlib.Core.Path.{_≡_, refl, ap, _∙_, subst}
+use mathlib.Core.Bool.{Bool, true, false, cond}
 use mathlib.Core.List.{List, [], _∷_, List·Permᴰ, List·Permᴰ·nil, List·Permᴰ·cons, List·Permᴰ·swap, List·Permᴰ·trans}
 use Prim.Native.Nat.{suc}
 use lib.ListN.{length}
+use Rattle.model.specs.Lists.{keep}
 use Rattle.model.specs.ListLaws.{All, all-both}
 
 module _ {A : Type 0} where
@@ -40,3 +42,14 @@ module _ {A : Type 0} where
   pub pairwise-implies : (R S : A → A → Type 0) (P : A → Type 0) → ((x y : A) → P x → P y → R x y → S x y) → (l : List A) → All P l → Pairwise R l → Pairwise S l
   pairwise-implies R S P f [] p h = tt
   pairwise-implies R S P f (x ∷ l) p h = (all-both P (R x) (S x) l (λ y. f x y (p .0)) (p .1) (h .0), pairwise-implies R S P f l (p .1) (h .1))
+
+  -- two tests may change places
+  pub keep-swap : (p q : A → Bool) (xs : List A) → keep p (keep q xs) ≡ keep q (keep p xs)
+  keep-swap p q [] = refl
+  keep-swap p q (x ∷ xs) = by (p x) (q x) refl refl (keep-swap p q xs)
+    where
+      by : (b c : Bool) → p x ≡ b → q x ≡ c → keep p (keep q xs) ≡ keep q (keep p xs) → keep p (cond c (x ∷ keep q xs) (keep q xs)) ≡ keep q (cond b (x ∷ keep p xs) (keep p xs))
+      by true true e f h = rw (e, f) (ap (x ∷_) h)
+      by true false e f h = rw f h
+      by false true e f h = rw e h
+      by false false e f h = h

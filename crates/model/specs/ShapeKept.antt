@@ -1,7 +1,7 @@
 -- Every call keeps the shape, from any replica that has it, forged early results included; an accepted opening gives it. Assumes nothing.
 use mathlib.Core.Path.{_≡_, refl, sym, ap, _∙_}
 use mathlib.Core.Logic.{_⊎_, inl, inr}
-use mathlib.Core.Bool.{Bool, true, false, not, _||_, false≢true, true≢false}
+use mathlib.Core.Bool.{Bool, true, false, not, false≢true}
 use mathlib.Core.Option.{none, some}
 use mathlib.Core.List.{List, [], _∷_, _++_, map, map-append}
 use Prim.Native.Nat.{ℕ, zero, suc, _^_, _≤_, _<_}
@@ -9,7 +9,7 @@ use native.Mathlib.Omega.{arith}
 use lib.IntN.{ℤ}
 use lib.Dec.{eqb, ltb}
 use lib.ListN.{length, set, replicate, length-map, length-set, length-append, length-replicate}
-use borrow.Author.Tests.{eq-eqb, eqb-true, leb-false, le-leb, lt-ltb, ltb-false, not-false}
+use borrow.Author.Tests.{eq-eqb, leb-false, le-leb, lt-ltb, not-false}
 use Rattle.arith.specs.Integer.{fits}
 use Rattle.operation.specs.Body.{size, operations, is-well-formed}
 use Rattle.execution.specs.Entries.{Entry}
@@ -27,11 +27,11 @@ use Rattle.model.specs.ListLaws.{All, all-mapped, all-keep, all-append, 
 use Rattle.model.specs.VersionLaws.{length-install, Dated, opening-dated}
 use Rattle.model.specs.EarlyResults.{ordered-keep, ordered-append, walk-ordered, worked-ordered, sents, worked-sents, walk-sents}
 use Rattle.model.specs.Refusals.{accepted, counted}
-use Rattle.model.specs.Tests.{neither, all-after-set}
+use Rattle.model.specs.Tests.{all-after-set}
 use Rattle.model.specs.Shape.{VersionsShape, bounds-fit, Shape}
 use Rattle.model.specs.ShapeCheck.{shaped, shaped-says}
 use Rattle.model.specs.ShapeBounds.{BoundsPart, with-stores, pruned-inside, installed-inside, starts-ordered, starts-versions, none-inside, worked-inside, walk-inside, result-inside}
-use Rattle.model.specs.ShapeParts.{Fit, Formed, Key, AllFormed, Objects, Queue, Bounded, objects-part, pending-part, bounds-part, together, same-length, distinct-keep, distinct-append, still-unspent}
+use Rattle.model.specs.ShapeParts.{Fit, Formed, SoundKey, AllFormed, Objects, Queue, Bounded, objects-part, pending-part, bounds-part, together, same-length, distinct-keep, distinct-append, still-unspent}
 use Rattle.model.specs.ShapeParts.{pending-sequence, table-fits, prune-fits, install-fits, install-versions, worked-shaped, walk-shaped, result-shaped, pick-found, opens-still, opened-who, closed-who}
 use Rattle.model.specs.Held.{close-shape, open-shape}
 
@@ -180,7 +180,7 @@ module _ (l : Limits) where
           small = q .small;
           last-count = q .last-count;
           distinct = rw here (distinct-append (sents (u .pending)) (j .sent) (q .distinct) (a .1 .1 .0));
-          keys = rw here (all-append (Key l n (u .lasts)) (sents (u .pending)) (j .sent) (q .keys) new);
+          keys = rw here (all-append (SoundKey l n (u .lasts)) (sents (u .pending)) (j .sent) (q .keys) new);
           ordered = ordered-append (u .pending) j (q .ordered) refl;
           runs = all-append _ (u .pending) j (q .runs) (start-shaped n (program j));
         })
@@ -192,7 +192,7 @@ module _ (l : Limits) where
         a : All (λ x. x .0 ≡ false) (causes l (facts u) (update (optimistic c s b)))
         a = accepted l (facts u) (update (optimistic c s b)) e
 
-        new : Key l n (u .lasts) (j .sent)
+        new : SoundKey l n (u .lasts) (j .sent)
         new = record { unspent = record { client = leb-false clients c (a .0); above = a .1 .0 }; sequence = hs; body = not-false (is-well-formed (l .operations) n b) (a .1 .1 .1 .0) }
 
         here : sents (u .pending ++ (j ∷ [])) ≡ sents (u .pending) ++ (j .sent ∷ [])
@@ -234,7 +234,7 @@ module _ (l : Limits) where
           small = all-after-set (λ x. ltb x (2 ^ 32)) (u .lasts) c s (lt-ltb s (2 ^ 32) (pending-sequence l n (u .lasts) c s (sents (u .pending)) (q .keys) key)) (q .small);
           last-count = length-set (u .lasts) c s ∙ q .last-count;
           distinct = rw here (distinct-keep (λ x. not (leaves c s x)) (sents (u .pending)) (q .distinct));
-          keys = rw (here, size) (all-keep-with (Key l n (u .lasts)) (Key l n (set (u .lasts) c s)) (λ x. not (leaves c s x)) (sents (u .pending)) still (q .keys));
+          keys = rw (here, size) (all-keep-with (SoundKey l n (u .lasts)) (SoundKey l n (set (u .lasts) c s)) (λ x. not (leaves c s x)) (sents (u .pending)) still (q .keys));
           ordered = walk-ordered T left (ordered-keep (stays c s) (u .pending) (q .ordered));
           runs = rw size (walk-shaped l n T left (all-keep _ (stays c s) (u .pending) (q .runs)));
         })
@@ -290,7 +290,7 @@ module _ (l : Limits) where
         here : sents (walk T left) ≡ keep (λ x. not (leaves c s x)) (sents (u .pending))
         here = walk-sents T left ∙ map-keep (λ (j : Pending). j .sent) (λ x. not (leaves c s x)) (u .pending)
 
-        still : (x : Transaction) → not (leaves c s x) ≡ true → Key l n (u .lasts) x → Key l n (set (u .lasts) c s) x
+        still : (x : Transaction) → not (leaves c s x) ≡ true → SoundKey l n (u .lasts) x → SoundKey l n (set (u .lasts) c s) x
         still x g h =
             record { unspent = still-unspent (u .lasts) c s x (let m = leb-false clients c (a .0) in let p = q .last-count in omega arith) g (h .unspent); sequence = h .sequence; body = h .body }
 

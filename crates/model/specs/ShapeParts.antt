@@ -1,6 +1,6 @@
 -- The shape of a replica in two parts, as the calls change them: objects with readers, and pending transactions with last numbers; and what
 -- keeps each fact of them. Assumes nothing.
-use mathlib.Core.Path.{_≡_, refl, sym, ap, _∙_}
+use mathlib.Core.Path.{_≡_, refl, sym, ap, ap₂, _∙_, subst}
 use mathlib.Core.Logic.{_⊎_, inl, inr}
 use mathlib.Core.Bool.{Bool, true, false, not, cond, _&&_, _||_, false≢true, true≢false}
 use mathlib.Core.Option.{Option, none, some, Option·none-ne-some, Option·some-injective}
@@ -52,7 +52,7 @@ pub record ObjectsPart (l : Limits) (t : ℕ) (objs : List (List Version)) (read
 abbrev pub Formed : Limits → ℕ → Transaction → Type 0
 Formed l n s = is-well-formed (l .operations) n (s .bytes) ≡ true
 
-pub record Key (l : Limits) (n : ℕ) (lasts : List ℕ) (s : Transaction) : Type 0 where
+pub record SoundKey (l : Limits) (n : ℕ) (lasts : List ℕ) (s : Transaction) : Type 0 where
   pub unspent : Unspent lasts s
   pub sequence : s .sequence < 2 ^ 32
   pub body : Formed l n s
@@ -62,7 +62,7 @@ pub record PendingPart (l : Limits) (n : ℕ) (lasts : List ℕ) (js : List Pend
   pub small : all (λ s. ltb s (2 ^ 32)) lasts ≡ true
   pub last-count : length lasts ≡ clients
   pub distinct : distinct-keys (sents js) ≡ true
-  pub keys : All (Key l n lasts) (sents js)
+  pub keys : All (SoundKey l n lasts) (sents js)
   pub ordered : Ordered js
   pub runs : AllShaped n js
 
@@ -71,7 +71,7 @@ opens-few [] = omega arith
 opens-few (none ∷ rs) = omega (arith, opens-few rs)
 opens-few (some r ∷ rs) = omega (arith, opens-few rs)
 
-keys-of : (l : Limits) (n : ℕ) (lasts : List ℕ) (ts : List Transaction) → All (Unspent lasts) ts → All (λ (s : Transaction). s .sequence < 2 ^ 32) ts → All (Formed l n) ts → All (Key l n lasts) ts
+keys-of : (l : Limits) (n : ℕ) (lasts : List ℕ) (ts : List Transaction) → All (Unspent lasts) ts → All (λ (s : Transaction). s .sequence < 2 ^ 32) ts → All (Formed l n) ts → All (SoundKey l n lasts) ts
 keys-of l n lasts [] u s b = tt
 keys-of l n lasts (t ∷ ts) u s b =
     (record { unspent = u .0; sequence = s .0; body = b .0 }, keys-of l n lasts ts (u .1) (s .1) (b .1))
@@ -128,14 +128,14 @@ module _ (l : Limits) (u : Replica) where
         stores = b .stores;
         readers = o .before;
         distinct = q .distinct;
-        unspent = all-implies (Key l n (u .lasts)) _ (λ s h. h .unspent) ts (q .keys);
+        unspent = all-implies (SoundKey l n (u .lasts)) _ (λ s h. h .unspent) ts (q .keys);
         bodies = bodies;
         order = ordered-order n (u .pending) (bodies-non-empty l n (u .pending) bodies) (q .ordered) (q .runs);
         sets = all-sets n (u .pending) (q .runs);
         encoded = record {
           timestamp = o .timestamp;
           lasts = q .small;
-          sequences = all-implies (Key l n (u .lasts)) _ (λ s h. h .sequence) ts (q .keys);
+          sequences = all-implies (SoundKey l n (u .lasts)) _ (λ s h. h .sequence) ts (q .keys);
           last-count = q .last-count;
           reader-count = o .reader-count;
           values = o .values;
@@ -151,7 +151,7 @@ module _ (l : Limits) (u : Replica) where
       ts = sents (u .pending)
 
       bodies : All (Formed l n) ts
-      bodies = all-implies (Key l n (u .lasts)) (Formed l n) (λ s h. h .body) ts (q .keys)
+      bodies = all-implies (SoundKey l n (u .lasts)) (Formed l n) (λ s h. h .body) ts (q .keys)
 
 -- ---- keys
 
@@ -187,16 +187,29 @@ still-unspent lasts c s x h g k =
     go′ true q e = rw (eqb-true (x .client) c q, getD-set-same lasts c s 0 h) e
     go′ false q e = rw (getD-set-other lasts c (x .client) s 0 (eqb-false (x .client) c q)) (k .above)
 
--- a key that is pending has a sequence number of 32 bits
-pub pending-sequence : (l : Limits) (n : ℕ) (lasts : List ℕ) (c s : ℕ) (ts : List Transaction) → All (Key l n lasts) ts → any (is-key c s) ts ≡ true → s < 2 ^ 32
-pending-sequence l n lasts c s [] k e = absurd (false≢true e)
-pending-sequence l n lasts c s (x ∷ ts) k e =
-    go′ (is-key c s x) refl e (pending-sequence l n lasts c s ts (k .1))
+-- a key that is pending is that of one of the transactions
+pub pending-one : (P : Transaction → Type 0) (c s : ℕ) (ts : List Transaction) → All P ts → any (is-key c s) ts ≡ true → (x : Transaction) × ((x .client ≡ c) × (x .sequence ≡ s) × P x)
+pending-one P c s [] k e = absurd (false≢true e)
+pending-one P c s (x ∷ ts) k e = go′ (is-key c s x) refl e (pending-one P c s ts (k .1))
   where
-    go′ : (b : Bool) → is-key c s x ≡ b → b || any (is-key c s) ts ≡ true → (any (is-key c s) ts ≡ true → s < 2 ^ 32) → s < 2 ^ 32
+    go′ : (b : Bool) → is-key c s x ≡ b → b || any (is-key c s) ts ≡ true → (any (is-key c s) ts ≡ true → (y : Transaction) × ((y .client ≡ c) × (y .sequence ≡ s) × P y))
+        → (y : Transaction) × ((y .client ≡ c) × (y .sequence ≡ s) × P y)
     go′ true q e i =
-        rw (eqb-true (x .sequence) s (both (eqb (x .client) c) (eqb (x .sequence) s) q .1)) at (k .0 .sequence)
+        let same = both (eqb (x .client) c) (eqb (x .sequence) s) q in
+        (x, (eqb-true (x .client) c (same .0), eqb-true (x .sequence) s (same .1), k .0))
     go′ false q e i = i e
+
+-- it has a sequence number of 32 bits,
+pub pending-sequence : (l : Limits) (n : ℕ) (lasts : List ℕ) (c s : ℕ) (ts : List Transaction) → All (SoundKey l n lasts) ts → any (is-key c s) ts ≡ true → s < 2 ^ 32
+pending-sequence l n lasts c s ts k e =
+    let (x, (client, sequence, sound)) = pending-one (SoundKey l n lasts) c s ts k e in
+    subst (λ (i : ℕ). i < 2 ^ 32) sequence (sound .sequence)
+
+-- and is that of a client, and unspent
+pub pending-unspent : (lasts : List ℕ) (c s : ℕ) (ts : List Transaction) → All (Unspent lasts) ts → any (is-key c s) ts ≡ true → (c < clients) × (spent lasts c s ≡ false)
+pending-unspent lasts c s ts k e =
+    let (x, (client, sequence, unspent)) = pending-one (Unspent lasts) c s ts k e in
+    (subst (λ (i : ℕ). i < clients) client (unspent .client), ap₂ (spent lasts) (sym client) (sym sequence) ∙ unspent .above)
 
 -- ---- values of 64 bits
 

@@ -61,7 +61,7 @@ module _ (l : Limits) (o : ℕ) where
   its-newest u = newest (getD (u .objects) o [])
 
   -- a write set without the object
-  newest-unwritten : (t : ℕ) (rs : List ℕ) (writes : List Entry) (objs : List (List Version)) → is-some (lookup writes o) ≡ false
+  pub newest-unwritten : (t : ℕ) (rs : List ℕ) (writes : List Entry) (objs : List (List Version)) → is-some (lookup writes o) ≡ false
       → newest (getD (install t rs writes objs) o []) ≡ newest (getD objs o [])
   newest-unwritten t rs writes objs h =
       sym (List·getD-map newest (install t rs writes objs) o [])

@@ -195,14 +195,26 @@ fn meet(some: &[(usize, i64)], others: &[(usize, i64)]) -> bool {
     some.iter().any(|(object, _)| others.iter().any(|(other, _)| other == object))
 }
 
+/// The object that an operation stores.
+fn stored(operation: &Operation) -> Option<usize> {
+    match *operation {
+        Operation::Store(_, object) => Some(object),
+        _ => None,
+    }
+}
+
+/// The object that it loads or stores.
+fn named(operation: &Operation) -> Option<usize> {
+    match *operation {
+        Operation::Load(_, object) | Operation::Store(_, object) => Some(object),
+        _ => None,
+    }
+}
+
 /// Told without a run: no store of either is of an object that the other loads or stores, carried out or not.
 fn programs_apart(one: &[Operation], other: &[Operation]) -> bool {
-    let names = |program: &[Operation], object| {
-        let named = |operation: &Operation| matches!(*operation, Operation::Load(_, named) | Operation::Store(_, named) if named == object);
-        program.iter().any(named)
-    };
     let clear = |one: &[Operation], other: &[Operation]| {
-        one.iter().all(|operation| !matches!(*operation, Operation::Store(_, object) if names(other, object)))
+        !one.iter().filter_map(stored).any(|object| other.iter().filter_map(named).any(|name| name == object))
     };
     clear(one, other) && clear(other, one)
 }
