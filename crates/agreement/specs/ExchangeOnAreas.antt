@@ -7,15 +7,16 @@ use Rattle.model.specs.declared.Limits.{Limits}
 use Rattle.model.specs.Lists.{all}
 use Rattle.model.specs.Interface.{Answer, refused, yielded}
 use Rattle.model.specs.Start.{start-of}
-use Rattle.model.specs.Calls.{Facts}
-use Rattle.model.specs.Replica.{Replica, facts, calls}
+use Rattle.model.specs.Calls.{Call}
+use Rattle.model.specs.Replica.{Replica, calls}
 use Rattle.model.specs.ListLaws.{All}
 use Rattle.model.specs.Invariant.{Invariant, opened-invariant, calls-invariant}
-use Rattle.model.specs.ShapeCheck.{shaped-says}
+use Rattle.model.specs.ShapeCheck.{shaped, shaped-says}
 use Rattle.model.specs.ShapeKept.{Typed}
 use Rattle.model.specs.Exchange.{Key, deliveries, alone, exchangeable, exchangeable-by-bodies, same-answer, answer-of, newest-values}
 use Rattle.model.specs.Reordering.{Permutation}
 use Rattle.model.specs.ExchangeLaws as states
+use Rattle.model.specs.ExchangeLater.{later-alike}
 use Rattle.model.specs.NamedObjects.{by-bodies}
 use Rattle.layout.specs.Layout.{Areas, parse, print}
 use Rattle.layout.specs.Fit.{parse-print}
@@ -28,13 +29,17 @@ use Rattle.agreement.specs.TraceLaws.{first, dated, last, last-shaped, a
 abbrev pub values-on : Limits → Areas → List ℤ
 values-on l a = newest-values (parse l a)
 
--- all that refusals look at: the stamp, the last numbers, what is pending with its bodies, which readers are open
-abbrev pub facts-on : Limits → Areas → Facts
-facts-on l a = facts (parse l a)
-
 -- final deliveries one directly after the other: what they answer, and the areas after them
 abbrev pub delivered-on : Limits → Areas → List Key → List Answer × Areas
 delivered-on l a ks = acts l (deliveries ks) a
+
+-- Later calls on either areas: each is accepted or refused alike, final deliveries have the same outcomes, and the newest values are the same after them.
+pub record SameLater (l : Limits) (a b : Areas) (cs : List Call) : Type 0 where
+  pub answers : map same-answer (acts l cs a .0) ≡ map same-answer (acts l cs b .0)
+  pub values : values-on l (acts l cs a .1) ≡ values-on l (acts l cs b .1)
+
+abbrev pub AlikeLater : Limits → Areas → Areas → Type 0
+AlikeLater l a b = (cs : List Call) → All Typed cs → SameLater l a b cs
 
 pub record Exchanged (l : Limits) (a : Areas) (j k : Key) : Type 0 where
   -- in either order both are accepted;
@@ -43,8 +48,8 @@ pub record Exchanged (l : Limits) (a : Areas) (j k : Key) : Type 0 where
   pub outcomes : map same-answer (delivered-on l a (j ∷ k ∷ []) .0) ≡ reverse (map same-answer (delivered-on l a (k ∷ j ∷ []) .0))
   -- and the same newest values"
   pub values : values-on l (delivered-on l a (j ∷ k ∷ []) .1) ≡ values-on l (delivered-on l a (k ∷ j ∷ []) .1)
-  -- beyond the paragraph: every call that comes next is judged alike
-  pub facts : facts-on l (delivered-on l a (j ∷ k ∷ []) .1) ≡ facts-on l (delivered-on l a (k ∷ j ∷ []) .1)
+  -- and so on in the list, whatever calls come after
+  pub later : AlikeLater l (delivered-on l a (j ∷ k ∷ []) .1) (delivered-on l a (k ∷ j ∷ []) .1)
 
 -- Of any number: each is accepted, and answers what its run on the table before them all gives.
 pub record AsAlone (l : Limits) (a : Areas) (ks : List Key) : Type 0 where
@@ -56,7 +61,7 @@ pub record Reordered (l : Limits) (a : Areas) (ks ms : List Key) : Type 0 where
   pub first : AsAlone l a ks
   pub second : AsAlone l a ms
   pub values : values-on l (delivered-on l a ks .1) ≡ values-on l (delivered-on l a ms .1)
-  pub facts : facts-on l (delivered-on l a ks .1) ≡ facts-on l (delivered-on l a ms .1)
+  pub later : AlikeLater l (delivered-on l a ks .1) (delivered-on l a ms .1)
 
 all-typed : (ks : List Key) → All Typed (deliveries ks)
 all-typed [] = tt
@@ -73,11 +78,16 @@ module _ {l : Limits} (x : Trace l) where
   invariant = calls-invariant l (x .later) (first x) (opened-invariant l (start-of (x .opening)) (dated x))
 
   module _ (ks : List Key) where
-    after : Replica
+    abbrev after : Replica
     after = calls l (last x) (deliveries ks) .1
 
+    invariant-after : Invariant l after
+    invariant-after = calls-invariant l (deliveries ks) (last x) invariant
+
+    after-shaped : shaped l after ≡ true
+    after-shaped = calls-shaped l (x .sane) (deliveries ks) (last x) (last-shaped x) (all-typed ks)
+
     on-states : delivered-on l (areas x) ks ≡ (calls l (last x) (deliveries ks) .0, print l after)
-    unfolding after
     on-states =
         ap (acts l (deliveries ks)) (areas-print x)
         ∙ acts-print l (x .sane) (deliveries ks) (last x) (last-shaped x) (all-typed ks)
@@ -85,11 +95,18 @@ module _ {l : Limits} (x : Trace l) where
     answers-on : map same-answer (delivered-on l (areas x) ks .0) ≡ map same-answer (calls l (last x) (deliveries ks) .0)
     answers-on = ap (λ (r : List Answer × Areas). map same-answer (r .0)) on-states
 
-    replica-after : parse l (delivered-on l (areas x) ks .1) ≡ after
-    unfolding after
-    replica-after =
-        ap (λ (r : List Answer × Areas). parse l (r .1)) on-states
-        ∙ parse-print l (x .sane) after (calls-shaped l (x .sane) (deliveries ks) (last x) (last-shaped x) (all-typed ks))
+    -- calls after them
+    module _ (cs : List Call) (g : All Typed cs) where
+      later-on-states : acts l cs (delivered-on l (areas x) ks .1) ≡ (calls l after cs .0, print l (calls l after cs .1))
+      later-on-states = ap (λ (r : List Answer × Areas). acts l cs (r .1)) on-states ∙ acts-print l (x .sane) cs after after-shaped g
+
+      later-answers : map same-answer (acts l cs (delivered-on l (areas x) ks .1) .0) ≡ map same-answer (calls l after cs .0)
+      later-answers = ap (λ (r : List Answer × Areas). map same-answer (r .0)) later-on-states
+
+      later-values : values-on l (acts l cs (delivered-on l (areas x) ks .1) .1) ≡ newest-values (calls l after cs .1)
+      later-values =
+          ap (λ (r : List Answer × Areas). values-on l (r .1)) later-on-states
+          ∙ ap newest-values (parse-print l (x .sane) (calls l after cs .1) (calls-shaped l (x .sane) cs after after-shaped g))
 
     as-alone : map same-answer (calls l (last x) (deliveries ks) .0) ≡ map (λ k. answer-of (alone (last x) k)) ks → AsAlone l (areas x) ks
     as-alone h =
@@ -102,14 +119,17 @@ module _ {l : Limits} (x : Trace l) where
 
   -- "This holds for every table and every such pair": for planners who move more than one, too
   pub reorder : (ks ms : List Key) → Permutation ks ms → exchangeable (replica x) ks ≡ true → Reordered l (areas x) ks ms
-  unfolding after
+  unfolding acts calls
   reorder ks ms p e =
       let h = states.reordered l (last x) invariant (shaped-says l (last x) .0 (last-shaped x)) ks ms p (rw replica-same at e) in
       record {
         first = as-alone ks (h .first);
         second = as-alone ms (h .second);
-        values = ap newest-values (replica-after ks) ∙ h .values ∙ sym (ap newest-values (replica-after ms));
-        facts = ap facts (replica-after ks) ∙ h .facts ∙ sym (ap facts (replica-after ms));
+        values = later-values ks [] tt ∙ h .after .values ∙ sym (later-values ms [] tt);
+        later = λ cs g. (let k = later-alike l cs (after ks) (after ms) (invariant-after ks) (invariant-after ms) (h .after) in record {
+          answers = later-answers ks cs g ∙ k .0 ∙ sym (later-answers ms cs g);
+          values = later-values ks cs g ∙ k .1 .values ∙ sym (later-values ms cs g);
+        });
       }
 
   -- S-14
@@ -120,7 +140,7 @@ module _ {l : Limits} (x : Trace l) where
         accepted = rw (h .first .accepted, h .second .accepted);
         outcomes = h .first .outcomes ∙ sym (ap reverse (h .second .outcomes));
         values = h .values;
-        facts = h .facts;
+        later = h .later;
       }
 
   -- Told by the bodies alone: no store of one is of an object that another loads or stores.

@@ -1,4 +1,5 @@
 -- S-14 of document 02, "Neighbours that may change places": which pending transactions they are, and what is the same in every order. Assumes nothing.
+use mathlib.Core.Path.{_≡_}
 use mathlib.Core.Bool.{Bool, true, false, not, _&&_, _||_}
 use mathlib.Core.Option.{Option, none, some}
 use mathlib.Core.List.{List, [], _∷_, map}
@@ -14,7 +15,7 @@ use Rattle.model.specs.Lists.{any, all}
 use Rattle.model.specs.Interface.{Committed, Yield, done, executed, committed, observed, Answer, refused, yielded}
 use Rattle.model.specs.Calls.{Call, final, last-timestamp}
 use Rattle.model.specs.Serial.{is-some}
-use Rattle.model.specs.Replica.{Replica, newest, committed-table, program, has-key, keyed}
+use Rattle.model.specs.Replica.{Replica, newest, committed-table, program, has-key, keyed, facts}
 
 -- a transaction's key
 pub record Key : Type 0 where
@@ -124,12 +125,12 @@ exchangeable-by-bodies u ks = deliverable u ks && pairwise (bodies-may-pass u) k
 abbrev pub same-delivery : Committed → Committed
 same-delivery r = record { outcome = r .outcome; validated = false; timestamp = 0; stored = r .stored; operations = 0 }
 
--- of a delivery; no other yield occurs here
+-- of other calls that they are accepted, and no more
 abbrev pub same-yield : Yield → Yield
 same-yield done = done
-same-yield (executed n f) = executed n f
+same-yield (executed n f) = done
 same-yield (committed r) = committed (same-delivery r)
-same-yield (observed o) = observed o
+same-yield (observed o) = done
 
 abbrev pub same-answer : Answer → Answer
 same-answer (refused k) = refused k
@@ -142,3 +143,9 @@ answer-of p = yielded (committed (record { outcome = p .outcome; validated = fal
 -- "the same newest values. Version stamps may differ."
 abbrev pub newest-values : Replica → List ℤ
 newest-values u = map (λ vs. newest vs .value) (u .objects)
+
+-- two replicas in all that later calls look at: not in stamps, early results and what readers see
+pub record Alike (u w : Replica) : Type 0 where
+  pub values : newest-values u ≡ newest-values w
+  pub facts : facts u ≡ facts w  -- the replica's stamp, the last numbers, what is pending with its bodies, which readers are open
+  pub bounds : u .bounds ≡ w .bounds

@@ -37,7 +37,7 @@ use Rattle.model.specs.Shape.{Shape}
 use Rattle.model.specs.ShapeParts.{pending-unspent}
 use Rattle.model.specs.ShapeKept.{call-shape}
 use Rattle.model.specs.EntrySets.{Disjoint, disjoint-says, disjoint-sym, not-in, lookup-later}
-use Rattle.model.specs.Exchange.{Key, deliver, deliveries, disjoint, apart, body-of, alone, may-pass, is-pending, deliverable, pairwise, exchangeable, same-answer, answer-of, newest-values}
+use Rattle.model.specs.Exchange.{Key, deliver, deliveries, disjoint, apart, body-of, alone, may-pass, is-pending, deliverable, pairwise, exchangeable, same-answer, answer-of, newest-values, Alike}
 use Rattle.model.specs.Reordering.{Permutation, Pairwise, length-reordered, all-reordered, pairwise-reordered, pairwise-implies, keep-swap}
 
 -- ---- the condition as facts
@@ -97,7 +97,7 @@ exchangeable-says u ks e =
 
 -- ---- values with stores over them
 
-abbrev over-values : (ℕ → Option ℤ) → List ℤ → List ℤ
+abbrev pub over-values : (ℕ → Option ℤ) → List ℤ → List ℤ
 over-values f xs = mapi (λ o x. Option·getD (f o) x) xs
 
 over-none : (xs : List ℤ) → over-values (λ o. none) xs ≡ xs
@@ -143,7 +143,7 @@ stored-reordered u (List·Permᴰ·trans d e) h o =
 -- ---- what refusals look at
 
 -- after one delivery
-abbrev passed : Key → Facts → Facts
+abbrev pub passed : Key → Facts → Facts
 passed k f =
     record {
       size = f .size;
@@ -180,11 +180,11 @@ facts-reordered u (List·Permᴰ·trans d e) h f =
 
 -- ---- a table that has the values a run read
 
-whole-matches : (T : Table) (b : List Operation) → matches T (whole T b .reads) ≡ true
+pub whole-matches : (T : Table) (b : List Operation) → matches T (whole T b .reads) ≡ true
 unfolding whole
 whole-matches T b = steps-match T b (length b)
 
-matches-too : (S T : Table) (es : List Entry) → ((o : ℕ) → is-some (lookup es o) ≡ true → S .look o ≡ T .look o) → matches T es ≡ true → matches S es ≡ true
+pub matches-too : (S T : Table) (es : List Entry) → ((o : ℕ) → is-some (lookup es o) ≡ true → S .look o ≡ T .look o) → matches T es ≡ true → matches S es ≡ true
 matches-too S T [] f e = refl
 matches-too S T (x ∷ es) f e =
     let h = both (eq-z (T .look (x .object)) (x .value)) (matches T es) e in
@@ -193,7 +193,7 @@ matches-too S T (x ∷ es) f e =
 
 -- ---- one delivery
 
-abbrev after : Replica → Key → Replica
+abbrev pub after : Replica → Key → Replica
 after u k = delivered u (k .client) (k .sequence) .1
 
 module _ (l : Limits) (u : Replica) (v : Invariant l u) (k : Key) where
@@ -211,7 +211,7 @@ module _ (l : Limits) (u : Replica) (v : Invariant l u) (k : Key) where
   unfolding alone
   result-alone = result-whole T (keyed u c s) (keyed-somewhere l u v c s)
 
-  values-after : newest-values (after u k) ≡ over-values (lookup (alone u k .writes)) (newest-values u)
+  pub values-after : newest-values (after u k) ≡ over-values (lookup (alone u k .writes)) (newest-values u)
   unfolding commit install
   values-after =
       rw (← result-alone)
@@ -244,7 +244,7 @@ module _ (l : Limits) (u : Replica) (v : Invariant l u) (k : Key) where
       walk-sents (committed-table (after u k)) (keep (stays c s) (u .pending))
       ∙ map-keep (λ (j : Pending). j .sent) (λ j. not (leaves c s j)) (u .pending)
 
-  facts-after : facts (after u k) ≡ passed k (facts u)
+  pub facts-after : facts (after u k) ≡ passed k (facts u)
   unfolding commit facts
   facts-after i =
       record {
@@ -300,7 +300,7 @@ module _ (l : Limits) (u : Replica) (v : Invariant l u) (k : Key) where
       rw (lt-leb clients c (fresh .0), fresh .1, queued, lt-leb last-timestamp (u .timestamp) room)
 
   -- what it answers, and where it leads
-  delivers : refusal l (facts u) (deliver k) ≡ 0 → (same-answer (call l u (deliver k) .0) ≡ answer-of (alone u k)) × (call l u (deliver k) .1 ≡ after u k)
+  pub delivers : refusal l (facts u) (deliver k) ≡ 0 → (same-answer (call l u (deliver k) .0) ≡ answer-of (alone u k)) × (call l u (deliver k) .1 ≡ after u k)
   unfolding call perform commit
   delivers e = rw e (ap answer-of result-alone, refl)
 
@@ -311,6 +311,7 @@ record InTurn (u : Replica) (ks : List Key) (r : List Answer × Replica) : Type 
   answers : map same-answer (r .0) ≡ map answer-of (runs u ks)
   values : newest-values (r .1) ≡ over-values (stored-by (runs u ks)) (newest-values u)
   facts : facts (r .1) ≡ all-passed ks (facts u)
+  bounds : r .1 .bounds ≡ u .bounds
 
 module _ (l : Limits) where
   -- what is left of the condition after one of them
@@ -346,7 +347,7 @@ module _ (l : Limits) where
     still-exchangeable = rw (one .1) (exchangeable-after u v k ks x .1)
 
     one-more : InTurn next ks (calls l next (deliveries ks)) → InTurn u (k ∷ ks) (calls l u (deliveries (k ∷ ks)))
-    unfolding calls all-passed
+    unfolding calls all-passed commit
     one-more others =
         let same-runs = ap (λ (y : Replica). runs y ks) (one .1) ∙ map-all (alone (after u k)) (alone u) ks (exchangeable-after u v k ks x .0) in
         let first-values = ap newest-values (one .1) ∙ values-after l u v k in
@@ -356,11 +357,12 @@ module _ (l : Limits) where
               ∙ ap₂ over-values (ap stored-by same-runs) first-values
               ∙ over-twice (stored-by (runs u ks)) (lookup (alone u k .writes)) (newest-values u);
           facts = others .facts ∙ ap (all-passed ks) (ap facts (one .1) ∙ facts-after l u v k);
+          bounds = others .bounds ∙ ap (λ (y : Replica). y .bounds) (one .1);
         }
 
   in-turn : (ks : List Key) (u : Replica) → Invariant l u → Shape l u → Exchangeable u ks → InTurn u ks (calls l u (deliveries ks))
   unfolding calls all-passed
-  in-turn [] u v h x = record { answers = refl; values = sym (over-none (newest-values u)); facts = refl }
+  in-turn [] u v h x = record { answers = refl; values = sym (over-none (newest-values u)); facts = refl; bounds = refl }
   in-turn (k ∷ ks) u v h x =
       one-more u v h k ks x
       (in-turn ks (call l u (deliver k) .1) (call-invariant l u v (deliver k)) (call-shape l u h (deliver k) tt) (still-exchangeable u v h k ks x))
@@ -369,8 +371,7 @@ module _ (l : Limits) where
   pub record Reordered (u : Replica) (ks ms : List Key) (r q : List Answer × Replica) : Type 0 where
     pub first : map same-answer (r .0) ≡ map (λ k. answer-of (alone u k)) ks
     pub second : map same-answer (q .0) ≡ map (λ k. answer-of (alone u k)) ms
-    pub values : newest-values (r .1) ≡ newest-values (q .1)
-    pub facts : facts (r .1) ≡ facts (q .1)
+    pub after : Alike (r .1) (q .1)
 
   pub reordered : (u : Replica) → Invariant l u → Shape l u → (ks ms : List Key) → Permutation ks ms → exchangeable u ks ≡ true
       → Reordered u ks ms (calls l u (deliveries ks)) (calls l u (deliveries ms))
@@ -386,8 +387,11 @@ module _ (l : Limits) where
       record {
         first = one-way .answers ∙ map-map answer-of (alone u) ks;
         second = other-way .answers ∙ map-map answer-of (alone u) ms;
-        values = one-way .values
-            ∙ ap (λ (f : ℕ → Option ℤ). over-values f (newest-values u)) (fun-ext (stored-reordered u p (x .passing)))
-            ∙ sym (other-way .values);
-        facts = one-way .facts ∙ facts-reordered u p (x .passing) (facts u) ∙ sym (other-way .facts);
+        after = record {
+          values = one-way .values
+              ∙ ap (λ (f : ℕ → Option ℤ). over-values f (newest-values u)) (fun-ext (stored-reordered u p (x .passing)))
+              ∙ sym (other-way .values);
+          facts = one-way .facts ∙ facts-reordered u p (x .passing) (facts u) ∙ sym (other-way .facts);
+          bounds = one-way .bounds ∙ sym (other-way .bounds);
+        };
       }

@@ -38,6 +38,7 @@ pub mod Exchange
 pub mod EntrySets
 pub mod Reordering
 pub mod ExchangeLaws
+pub mod ExchangeLater
 pub mod NamedObjects
 pub mod Computing
 pub mod Cases
