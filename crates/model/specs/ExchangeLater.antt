@@ -2,19 +2,19 @@
 -- later comes to the same. Assumes nothing.
 use mathlib.Core.Path.{_≡_, refl, sym, ap, ap₂, _∙_}
 use mathlib.Core.Bool.{Bool, true, false}
-use mathlib.Core.Option.{Option, none, some, Option·getD}
+use mathlib.Core.Option.{none, some}
 use mathlib.Core.List.{List, [], _∷_, _++_, map, map-append}
 use Prim.Native.Nat.{ℕ, zero, suc}
 use lib.IntN.{ℤ, pos}
-use lib.ListN.{length, getD, set, length-map, List·getD-map}
+use lib.ListN.{getD, set, length-map, List·getD-map}
 use Rattle.operation.specs.Body.{operations}
 use Rattle.execution.specs.Entries.{lookup}
-use Rattle.execution.specs.Bounds.{Bounds, no-bounds, inside}
-use Rattle.execution.specs.Run.{Table, whole}
+use Rattle.execution.specs.Bounds.{no-bounds, inside}
+use Rattle.execution.specs.Run.{whole}
 use Rattle.execution.specs.ReadAgreement.{whole-agree}
 use Rattle.model.specs.declared.Limits.{Limits}
 use Rattle.model.specs.Lists.{pick}
-use Rattle.model.specs.Interface.{optimistic, execute, final, open-reader, close-reader, Call, opening, update, query, Answer, yielded}
+use Rattle.model.specs.Interface.{optimistic, execute, final, open-reader, close-reader, Call, opening, update, query, Answer}
 use Rattle.model.specs.Calls.{Transaction, Facts, is-key, bytes-of, refusal, judged}
 use Rattle.model.specs.Start.{Version}
 use Rattle.model.specs.Serial.{is-some}
@@ -24,8 +24,8 @@ use Rattle.model.specs.VersionLaws.{newest-prune}
 use Rattle.model.specs.EarlyResults.{worked-sents}
 use Rattle.model.specs.Invariant.{Invariant, call-invariant}
 use Rattle.model.specs.Correspondence.{picked-bytes}
-use Rattle.model.specs.Exchange.{Key, deliver, body-of, alone, same-yield, same-answer, answer-of, newest-values, Alike}
-use Rattle.model.specs.ExchangeLaws.{after, passed, over-values, whole-matches, matches-too, values-after, facts-after, delivers}
+use Rattle.model.specs.Exchange.{Key, deliver, body-of, alone, same-answer, answer-of, newest-values, Alike}
+use Rattle.model.specs.ExchangeLaws.{passed, over-values, whole-matches, matches-too, values-after, facts-after, delivers}
 
 -- ---- a later delivery
 

@@ -3,7 +3,7 @@
 //! they do.
 
 use crate::body::{decode, Operation};
-use crate::calls::{seen, Call, Calls};
+use crate::calls::{seen, Answer, Call, Calls};
 use crate::comparison::{committed_objects, same, Difference};
 use crate::coverage::Coverage;
 use crate::independent::{Bounds, Independent, Run, State, Transaction};
@@ -132,6 +132,22 @@ impl Moment {
         Ok(both)
     }
 
+    /// Calls after either of two orders: judged alike, later final deliveries come to the same, and so do the values.
+    fn go_on(&self, mix: &Mix, random: &mut Random, orders: [&[usize]; 2]) -> Result<Vec<Answer>, Difference> {
+        let [mut one, mut other] = [self.library.clone(), self.library.clone()];
+        self.answers(&mut one, orders[0]);
+        self.answers(&mut other, orders[1]);
+        let mut answers = Vec::new();
+        for _ in 0..random.between(1, 30) {
+            let call = mix.call(random, Some(&shaped(&one)?));
+            let answer = one.perform(&call);
+            same("a later call, and after the other order", judged(&answer), judged(&other.perform(&call)))?;
+            same("newest values later", shaped(&one)?.committed(), shaped(&other)?.committed())?;
+            answers.push(answer);
+        }
+        Ok(answers)
+    }
+
     fn report(&self, orders: [&[usize]; 2], difference: &str) -> Difference {
         let [order, other] = orders;
         let mut lines = format!("{difference}\nplaces {order:?} and {other:?} on {:?}\n", self.state.committed());
@@ -159,6 +175,14 @@ impl Delivered {
 
     fn kept(&self) -> Vec<u32> {
         self.answers.values().map(|answer| answer.kept).collect()
+    }
+}
+
+/// What is claimed of a call's answer later on: the number and, of a final delivery, its outcome and the objects stored.
+fn judged(answer: &Answer) -> Claimed {
+    match *answer {
+        Answer::Committed(Committed { number, outcome, stored, .. }) => [number, outcome, stored],
+        ref other => [other.number().unwrap_or(0), 0, 0],
     }
 }
 
@@ -219,8 +243,8 @@ fn programs_apart(one: &[Operation], other: &[Operation]) -> bool {
     clear(one, other) && clear(other, one)
 }
 
-/// Two in both orders: as claimed if they are apart, else as they happen to come out.
-fn compare_pair(coverage: &mut Coverage, moment: &Moment, orders: [&[usize]; 2]) -> Result<(), Difference> {
+/// Two in both orders: as claimed if they are apart, else as they happen to come out. Yields whether they are apart.
+fn compare_pair(coverage: &mut Coverage, moment: &Moment, orders: [&[usize]; 2]) -> Result<bool, Difference> {
     let (first, second) = (orders[0][0], orders[0][1]);
     let told = programs_apart(&moment.programs[first], &moment.programs[second]);
     if told {
@@ -230,13 +254,29 @@ fn compare_pair(coverage: &mut Coverage, moment: &Moment, orders: [&[usize]; 2])
         let both = moment.exchange(orders)?;
         count_pair(coverage, [&moment.runs[first], &moment.runs[second]], &both);
         coverage.count(if told { "exchanged: told by the bodies" } else { "exchanged: told by the runs alone" });
-        return Ok(());
+        return Ok(true);
     };
     let (one, other) = (moment.deliver(orders[0])?, moment.deliver(orders[1])?);
     let differ = one.claimed() != other.claimed() || one.values() != other.values();
     coverage.count("pairs not to be exchanged");
     coverage.count(&stays(obstacle, false));
     coverage.count_if(differ, &stays(obstacle, true));
+    Ok(false)
+}
+
+/// Some calls after an exchange, and what they were.
+fn compare_later(
+    coverage: &mut Coverage,
+    random: &mut Random,
+    mix: &Mix,
+    moment: &Moment,
+    orders: [&[usize]; 2],
+) -> Result<(), Difference> {
+    for answer in moment.go_on(mix, random, orders)? {
+        coverage.count("after an exchange: calls");
+        coverage.count_if(answer.refused(), "after an exchange: refusals");
+        coverage.count_if(matches!(answer, Answer::Committed(_)), "after an exchange: final deliveries");
+    }
     Ok(())
 }
 
@@ -276,12 +316,16 @@ fn compare_several(coverage: &mut Coverage, moment: &Moment, orders: [&[usize]; 
 }
 
 /// A pair of pending transactions, and several where so many are apart.
-fn compare_moment(coverage: &mut Coverage, random: &mut Random, moment: &Moment) -> Result<(), Difference> {
+fn compare_moment(coverage: &mut Coverage, random: &mut Random, mix: &Mix, moment: &Moment) -> Result<(), Difference> {
     let pending = moment.runs.len();
     let first = random.below(pending);
     let second = (first + random.between(1, pending - 1)) % pending;
     let pair: [&[usize]; 2] = [&[first, second], &[second, first]];
-    compare_pair(coverage, moment, pair).map_err(|difference| moment.report(pair, &difference))?;
+    let exchanged = compare_pair(coverage, moment, pair).map_err(|difference| moment.report(pair, &difference))?;
+    if exchanged && random.percent(10) {
+        let later = compare_later(coverage, random, mix, moment, pair);
+        later.map_err(|difference| moment.report(pair, &difference))?;
+    }
     let order = draw_apart(random, moment);
     if order.len() < 3 {
         return Ok(());
@@ -305,7 +349,7 @@ fn compare_list(seed: u64, coverage: &mut Coverage) -> Result<(), Difference> {
         library.perform(&call);
         let moment = Moment::new(library)?;
         if moment.runs.len() >= 2 && moment.stamps_left() > 0 {
-            compare_moment(coverage, &mut random, &moment)?;
+            compare_moment(coverage, &mut random, &mix, &moment)?;
         }
         call = mix.call(&mut random, Some(&moment.state));
         library = moment.library;
@@ -340,6 +384,8 @@ fn in_two_orders(transactions: usize) -> String {
 /// All that lists have to come across.
 pub fn required() -> Vec<String> {
     let names = [
+        "after an exchange: final deliveries",
+        "after an exchange: refusals",
         "exchanged: both read one object",
         "exchanged: both store",
         "exchanged: kept in one order and run again in the other",
