@@ -47,7 +47,7 @@ body-of u k = program (keyed u (k .client) (k .sequence))
 unfoldable pub alone : Replica → Key → Run
 alone u k = whole (committed-table u) (body-of u k)
 
--- "jobs of different clients"
+-- "jobs of different clients", and apart
 unfoldable pub may-pass : Replica → Key → Key → Bool
 may-pass u j k = not (eqb (j .client) (k .client)) && apart (alone u j) (alone u k)
 
@@ -144,7 +144,7 @@ answer-of p = yielded (committed (record { outcome = p .outcome; validated = fal
 abbrev pub newest-values : Replica → List ℤ
 newest-values u = map (λ vs. newest vs .value) (u .objects)
 
--- two replicas in all that later calls look at: not in stamps, early results and what readers see
+-- two replicas in all that later calls are judged and run by: not in the versions' stamps, early results and what readers see
 pub record Alike (u w : Replica) : Type 0 where
   pub values : newest-values u ≡ newest-values w
   pub facts : facts u ≡ facts w  -- the replica's stamp, the last numbers, what is pending with its bodies, which readers are open

@@ -1,4 +1,4 @@
--- After an exchange: replicas that differ in stamps, early results and readers' views alone are judged alike by every later call, and what they deliver
+-- After an exchange: replicas that differ in the versions' stamps, early results and readers' views alone are judged alike by every later call, and what they deliver
 -- later comes to the same. Assumes nothing.
 use mathlib.Core.Path.{_≡_, refl, sym, ap, ap₂, _∙_}
 use mathlib.Core.Bool.{Bool, true, false}

@@ -188,7 +188,7 @@ still-unspent lasts c s x h g k =
     go′ false q e = rw (getD-set-other lasts c (x .client) s 0 (eqb-false (x .client) c q)) (k .above)
 
 -- a key that is pending is that of one of the transactions
-pub pending-one : (P : Transaction → Type 0) (c s : ℕ) (ts : List Transaction) → All P ts → any (is-key c s) ts ≡ true → (x : Transaction) × ((x .client ≡ c) × (x .sequence ≡ s) × P x)
+pending-one : (P : Transaction → Type 0) (c s : ℕ) (ts : List Transaction) → All P ts → any (is-key c s) ts ≡ true → (x : Transaction) × ((x .client ≡ c) × (x .sequence ≡ s) × P x)
 pending-one P c s [] k e = absurd (false≢true e)
 pending-one P c s (x ∷ ts) k e = go′ (is-key c s x) refl e (pending-one P c s ts (k .1))
   where

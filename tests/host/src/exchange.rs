@@ -161,7 +161,6 @@ impl Moment {
 
 impl Delivered {
     fn claimed(&self) -> BTreeMap<usize, Claimed> {
-        let claimed = |answer: &Committed| [answer.number, answer.outcome, answer.stored];
         self.answers.iter().map(|(&place, answer)| (place, claimed(answer))).collect()
     }
 
@@ -178,11 +177,15 @@ impl Delivered {
     }
 }
 
-/// What is claimed of a call's answer later on: the number and, of a final delivery, its outcome and the objects stored.
+fn claimed(answer: &Committed) -> Claimed {
+    [answer.number, answer.outcome, answer.stored]
+}
+
+/// What is claimed of a later call: of a final delivery the same, of another its number alone.
 fn judged(answer: &Answer) -> Claimed {
-    match *answer {
-        Answer::Committed(Committed { number, outcome, stored, .. }) => [number, outcome, stored],
-        ref other => [other.number().unwrap_or(0), 0, 0],
+    match answer {
+        Answer::Committed(committed) => claimed(committed),
+        other => [other.number().unwrap_or(0), 0, 0],
     }
 }
 
