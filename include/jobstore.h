@@ -29,7 +29,7 @@
 #include <stddef.h>
 #include <stdint.h>
 
-#define JOBSTORE_VERSION "0.7.0"
+#define JOBSTORE_VERSION "0.6.0"
 
 #ifdef __cplusplus
 extern "C" {
@@ -48,12 +48,9 @@ enum jobstore_refusal {
     JOBSTORE_READER = 10,         /* reader above 6 */
     JOBSTORE_READER_OPEN = 11,    /* reader open already */
     JOBSTORE_READER_CLOSED = 12,  /* reader not open */
-    JOBSTORE_OBJECT = 13,         /* no such object: its number is n or more */
+    JOBSTORE_OBJECT = 13,         /* read: object n or more */
     JOBSTORE_COUNT = 14,          /* work count above 4,096 */
-    JOBSTORE_BOUNDS = 15,         /* opening: a lower bound above its upper, or a start value outside its bounds */
-    JOBSTORE_TEXT = 18,           /* formula: text outside the rules, or of more than 200 bytes */
-    JOBSTORE_REGISTERS = 19,      /* formula: a fifth register wanted */
-    JOBSTORE_OPERATIONS = 20      /* formula: more than 16 operations */
+    JOBSTORE_BOUNDS = 15          /* opening: a lower bound above its upper, or a start value outside its bounds */
 };
 
 /* The cause of a refusal in words; of any other number, that it is none. */
@@ -90,12 +87,6 @@ static inline const char *jobstore_refusal_text(uint32_t number)
         return "the work count is above 4,096";
     case JOBSTORE_BOUNDS:
         return "a lower bound is above its upper, or a start value is outside its bounds";
-    case JOBSTORE_TEXT:
-        return "the text is outside the rules of a formula";
-    case JOBSTORE_REGISTERS:
-        return "the formula wants a fifth register";
-    case JOBSTORE_OPERATIONS:
-        return "the formula has more than 16 operations";
     default:
         return "no refusal";
     }
@@ -201,13 +192,6 @@ struct jobstore_preview {
     int64_t values[JOBSTORE_PREVIEW_PLACES];  /* what each object would hold; 0 past the last object */
 };
 
-/* Formula. Its body is delivered as the first `length` bytes; those behind them are 0. */
-struct jobstore_compiled {
-    uint32_t number;                     /* 0, or the refusal */
-    uint32_t length;                     /* of the body, in bytes */
-    uint8_t body[JOBSTORE_BODY_LENGTH];  /* as jobstore_encode writes it */
-};
-
 /* The length of the record area in bytes, for arrays and as the library has it. */
 #define JOBSTORE_RECORD_LENGTH 30160
 uint32_t jobstore_record_length(void);
@@ -274,38 +258,6 @@ struct jobstore_part jobstore_show_body(const uint8_t *record, size_t record_len
  * Returns outcome, kept, stamp and every object's value after it, or refusal 1, 3, 4, 8, 9, as the final delivery would. */
 struct jobstore_preview jobstore_dry_run(const uint8_t *record, size_t record_length, const uint8_t *bodies, size_t bodies_length,
                                          uint32_t client, uint32_t sequence);
-
-/* Formula: the body of a job that is written as text, for a replica of as many objects as this one. Changes nothing.
- *
- *     o2 = (o0 - 120) / 2 + o1; o0 = 0
- *
- * Object 2 takes half of what object 0 has above 120, and object 1 added to it; then object 0 takes 0. The rules:
- *
- *     formula     one assignment or more, with ; between neighbours
- *     assignment  object = expression
- *     expression  one term or more, with + or - between neighbours
- *     term        a factor; after it any number of / with a whole number from 1 to 1,000,000
- *     factor      a whole number up to 9,223,372,036,854,775,807; an object; - before a factor; ( expression )
- *     object      o and its number
- *
- * Spaces may stand anywhere but inside a number or after o, and a number may begin with zeros. Nothing else may stand in a
- * text: no *, no decimal point, no division by an object, no ; after the last assignment, no end of a line. The text has at
- * most JOBSTORE_MOST_TEXT bytes and needs no 0 byte after it.
- *
- * The job does what is written, step by step, equal ranks from left to right. Each quotient is rounded where it stands, as
- * JOBSTORE_DIVIDE rounds: 1 / 2 + 1 / 2 is 0 + 0. A sum, a difference or a minus that leaves 64 bits ends the job with
- * JOBSTORE_OVERFLOW, though the whole might come back inside. Bounds are asked of what an assignment stores, and of nothing on
- * the way to it. A later assignment sees what an earlier one stored; if the job is not done, none is stored.
- *
- * - before a factor is 0 less the factor. Each number, that 0 included, each object of an expression, each sign, divisor and
- * assignment is one operation: o1 = -o0 has four. An assignment begins in register 0, and a right operand takes one register
- * more than its left one: 1 - (2 - (3 - 4)) takes all four registers, ((1 - 2) - 3) - 4 takes two.
- *
- * Returns the body and its length; or, with zeros beside it, refusal 1, 18 (the text is outside the rules), 13 (an object's
- * number is n or more), 19 (a fifth register is wanted), 20 (more than 16 operations), the first of these that holds. */
-#define JOBSTORE_MOST_TEXT 200
-struct jobstore_compiled jobstore_formula(const uint8_t *record, size_t record_length, const uint8_t *bodies, size_t bodies_length,
-                                          const char *text, size_t text_length);
 
 #ifdef __cplusplus
 }

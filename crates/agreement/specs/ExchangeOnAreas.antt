@@ -7,10 +7,11 @@ use mathlib.Core.List.{List, [], ◌∷◌, map, reverse}
 use Rattle.model.specs.declared.Limits.{Limits}
 use Rattle.model.specs.Lists.{all}
 use Rattle.model.specs.Interface.{Answer, refused, yielded}
+use Rattle.model.specs.Start.{start_of}
 use Rattle.model.specs.Calls.{Call}
 use Rattle.model.specs.Replica.{Replica, calls}
 use Rattle.model.specs.ListLaws.{All}
-use Rattle.model.specs.Invariant.{Invariant, calls-invariant}
+use Rattle.model.specs.Invariant.{Invariant, opened-invariant, calls-invariant}
 use Rattle.model.specs.ShapeCheck.{shaped, shaped-says}
 use Rattle.model.specs.ShapeKept.{Typed}
 use Rattle.model.specs.Exchange.{Key, deliveries, alone, exchangeable, exchangeable_by_bodies, same_answer, answer_of, newest_values}
@@ -23,7 +24,7 @@ use Rattle.layout.specs.Fit.{parse-print}
 use Rattle.layout.specs.Act.{acts}
 use Rattle.layout.specs.Areas.{acts-print, calls-shaped}
 use Rattle.agreement.specs.Trace.{Trace, areas, replica, taken}
-use Rattle.agreement.specs.TraceLaws.{last, last-shaped, last-invariant, areas-print, replica-same}
+use Rattle.agreement.specs.TraceLaws.{first, dated, last, last-shaped, areas-print, replica-same}
 
 -- the newest values that the areas say
 abbrev pub values_on : Limits → Areas → List ℤ
@@ -74,12 +75,15 @@ all-taken (refused k ∷ xs) = refl
 all-taken (yielded y ∷ xs) = all-taken xs
 
 module _ {l : Limits} (x : Trace l) where
+  invariant : Invariant l (last x)
+  invariant = calls-invariant l x.later (first x) (opened-invariant l (start_of x.opening) (dated x))
+
   module _ (ks : List Key) where
     abbrev after : Replica
     after = (calls l (last x) (deliveries ks)).1
 
     invariant_after : Invariant l after
-    invariant_after = calls-invariant l (deliveries ks) (last x) (last-invariant x)
+    invariant_after = calls-invariant l (deliveries ks) (last x) invariant
 
     after-shaped : shaped l after ≡ true
     after-shaped = calls-shaped l x.sane (deliveries ks) (last x) (last-shaped x) (all_typed ks)
@@ -118,7 +122,7 @@ module _ {l : Limits} (x : Trace l) where
   pub reorder : (ks ms : List Key) → Permutation ks ms → exchangeable (replica x) ks ≡ true → Reordered l (areas x) ks ms
   unfolding acts calls
   reorder ks ms p e =
-      let h = states.reordered l (last x) (last-invariant x) ((shaped-says l (last x)).0 (last-shaped x)) ks ms p (rw replica-same at e) in
+      let h = states.reordered l (last x) invariant ((shaped-says l (last x)).0 (last-shaped x)) ks ms p (rw replica-same at e) in
       record {
         first = as_alone ks h.first;
         second = as_alone ms h.second;

@@ -1,7 +1,7 @@
 -- What demand 3 on the areas speaks of: a list of calls from an accepted opening on, and the history that it commits. Assumes nothing.
 use Rattle.std.specs.Prelude.{◌≡◌, Bool, true, false, cond, List, [], ◌∷◌, ◌++◌, ℕ}
 use Rattle.model.specs.declared.Limits.{Limits}
-use Rattle.model.specs.Interface.{Opening, optimistic, execute, final, open_reader, close_reader, show_body, Call, opening, update, query, version, found, body, previewed, compiled, done, executed, committed, observed, Answer, refused, yielded}
+use Rattle.model.specs.Interface.{Opening, optimistic, execute, final, open_reader, close_reader, show_body, Call, opening, update, query, version, found, body, previewed, done, executed, committed, observed, Answer, refused, yielded}
 use Rattle.model.specs.Start.{start_of}
 use Rattle.model.specs.Replica.{Replica}
 use Rattle.model.specs.ListLaws.{All}
@@ -51,7 +51,6 @@ bytes_in (yielded (observed (version v))) = []
 bytes_in (yielded (observed (found i n))) = []
 bytes_in (yielded (observed (body b))) = b
 bytes_in (yielded (observed (previewed p))) = []
-bytes_in (yielded (observed (compiled m bs))) = []
 
 -- what a call that is accepted on these areas adds: a final delivery its key and the body that Show body shows for it, an opening where it starts
 abbrev pub event : Limits → Areas → Call → List Event

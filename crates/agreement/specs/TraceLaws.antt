@@ -15,7 +15,6 @@ use Rattle.model.specs.Replica.{Replica, newest, keyed, facts, opened, perform, 
 use Rattle.model.specs.ListLaws.{All}
 use Rattle.model.specs.Refusals.{accepted, plain-counted, plain-inside}
 use Rattle.model.specs.VersionLaws.{newest-at, Dated, opening-dated}
-use Rattle.model.specs.Invariant.{Invariant, opened-invariant, calls-invariant}
 use Rattle.model.specs.Correspondence.{picked-bytes}
 use Rattle.model.specs.ShapeCheck.{shaped}
 use Rattle.model.specs.ShapeKept.{Typed, call-shaped}
@@ -107,9 +106,6 @@ module _ {l : Limits} (x : Trace l) where
 
   pub last-shaped : shaped l last ≡ true
   last-shaped = calls-shaped l s x.later first first-shaped x.typed.1
-
-  pub last-invariant : Invariant l last
-  last-invariant = calls-invariant l x.later first (opened-invariant l (start_of x.opening) dated)
 
   -- the list on the areas is the list on states
   on_states : acts l (list x) x.before ≡ (done ∷ (calls l first x.later).0, print l last)

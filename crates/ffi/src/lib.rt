@@ -1,16 +1,16 @@
 // Exports for C and Rust (include/jobstore.h): nothing but wrappers over `replica`, named by the papers' words.
 // A slice is a pointer and a length. A result is a number, or a struct whose first number is 0 or the refusal.
 ghost use Rattle.std.specs.Prelude.{◌≡◌};
-ghost use Rattle.model.specs.Calls.{by_values, opening, optimistic, execute, final, open_reader, read, close_reader, find, dry_run, compile};
+ghost use Rattle.model.specs.Calls.{by_values, opening, optimistic, execute, final, open_reader, read, close_reader, find, dry_run};
 ghost use Rattle.model.specs.Limits.{standard};
 ghost use Rattle.model.specs.Answers.{finding};
 ghost use Rattle.layout.specs.Offsets.{record_length, bodies_length};
 ghost use Rattle.queue.specs.Shown.{part};
-ghost use Rattle.ffi_numbers.specs.AnswerNumbers.{lone, executed, committed, valued, found, previewed, compiled_body};
+ghost use Rattle.ffi_numbers.specs.AnswerNumbers.{lone, executed, committed, valued, found, previewed};
 ghost use Rattle.ffi.specs.Exported.{Exported};
 ghost use Rattle.ffi.specs.ExportedPart.{Low, ShownPart};
 
-use ffi_numbers::{Committed, CompiledBody, Executed, Found, Previewed, Valued};
+use ffi_numbers::{Committed, Executed, Found, Previewed, Valued};
 use model::Finding;
 
 // Show body: which bytes of the body area.
@@ -164,13 +164,4 @@ pub extern "C" fn jobstore_dry_run(
         (previewed result) (records.now, bodies.now) }
 {
     ffi_numbers::preview_numbers(replica::dry_run(records, bodies, client, sequence))
-}
-
-// Formula: the body that a text becomes.
-#[unsafe(no_mangle)]
-pub extern "C" fn jobstore_formula(records: &[u8], bodies: &[u8], text: &[u8]) -> CompiledBody
-    ensures { Exported (compile text.now) (records.now, bodies.now)
-        (compiled_body result) (records.now, bodies.now) }
-{
-    ffi_numbers::compilation_numbers(replica::compile(records, bodies, text))
 }

@@ -1,5 +1,5 @@
 -- The numbers of an answer, and that they are the paper's. Assumes nothing.
-use Rattle.std.specs.Prelude.{◌≡◌, refl, Bool, true, false, List, [], ◌∷◌, map, ℕ, ℤ, pos, replicate}
+use Rattle.std.specs.Prelude.{◌≡◌, refl, Bool, true, false, List, [], ◌∷◌, ℕ, ℤ, pos, replicate}
 use Rattle.std.proofs.Common.{sym, ap}
 use mir.Val.{bool_byte}
 use Rattle.model.specs.Calls.{Call, Answer, refused, results, numbers, flag}
@@ -8,7 +8,6 @@ use Rattle.ffi_numbers.specs.declared.Committed.{Committed}
 use Rattle.ffi_numbers.specs.declared.Valued.{Valued}
 use Rattle.ffi_numbers.specs.declared.Found.{Found}
 use Rattle.ffi_numbers.specs.declared.Previewed.{Previewed}
-use Rattle.ffi_numbers.specs.declared.CompiledBody.{CompiledBody}
 
 -- ---- the numbers of each result, in the struct's order
 
@@ -30,9 +29,6 @@ found r = pos r.number ∷ pos r.place ∷ pos r.length ∷ []
 
 abbrev pub previewed : Previewed → List ℤ
 previewed r = pos r.number ∷ pos r.outcome ∷ pos r.kept ∷ pos r.stamp ∷ r.values
-
-abbrev pub compiled_body : CompiledBody → List ℤ
-compiled_body r = pos r.number ∷ pos r.length ∷ map pos r.body
 
 -- these are the numbers of the answer to any call that yields k beside the first
 pub record Numbered (k : ℕ) (result : List ℤ) (x : Answer) : Type 0 where

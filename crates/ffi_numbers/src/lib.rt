@@ -1,10 +1,9 @@
 // Answers in the papers' numbers, as structs that C can take: 0 and the results, or a refusal's number and zeros.
 ghost use Rattle.std.specs.Prelude.{◌+◌};
-ghost use Rattle.model.specs.Calls.{preview_places, formula_bytes};
-ghost use Rattle.model.specs.Answers.{reply, execution, delivery, reading, finding, preview, compilation};
-ghost use Rattle.ffi_numbers.specs.AnswerNumbers.{lone, executed, committed, valued, found, previewed, compiled_body, Numbered};
+ghost use Rattle.model.specs.Calls.{preview_places};
+ghost use Rattle.model.specs.Answers.{reply, execution, delivery, reading, finding, preview};
+ghost use Rattle.ffi_numbers.specs.AnswerNumbers.{lone, executed, committed, valued, found, previewed, Numbered};
 
-use formula::{Compiled, Compiling};
 use model::{Delivery, Execution, Finding, Preview, Previewing, Reading, Reply};
 
 // Work: operations carried out, pending transactions now finished.
@@ -55,15 +54,6 @@ pub struct Previewed {
     pub kept: u32,
     pub stamp: u32,
     pub values: [i64; 128],
-}
-
-// A formula: the length of the body that it becomes, its bytes and zeros behind them.
-#[repr(C)]
-#[derive(Drop)]
-pub struct CompiledBody {
-    pub number: u32,
-    pub length: u32,
-    pub body: [u8; 177],
 }
 
 // An answer that is 0 or a refusal, as its number.
@@ -176,29 +166,6 @@ pub fn preview_numbers(p: Preview) -> Previewed
                 kept: 0,
                 stamp: 0,
                 values: zeros,
-            }
-        }
-    }
-}
-
-// A formula's answer in the paper's numbers. A refusal has zeros for the bytes, whatever stands beside it.
-pub fn compilation_numbers(c: Compiled) -> CompiledBody
-    ensures { Numbered (1 + formula_bytes) (compiled_body result) (compilation c) }
-{
-    let answer = c.answer;
-    let body = c.bytes;
-    match answer {
-        Compiling::Body(length) => CompiledBody {
-            number: 0,
-            length,
-            body,
-        },
-        Compiling::Refused(k) => {
-            let zeros: [u8; 177] = [0; 177];
-            CompiledBody {
-                number: k,
-                length: 0,
-                body: zeros,
             }
         }
     }

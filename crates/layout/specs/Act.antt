@@ -1,7 +1,7 @@
 -- The calls on the two areas, as the public contracts cite them. Assumes nothing.
 use Rattle.std.specs.Prelude.{Bool, cond, List, [], ◌∷◌}
 use Rattle.model.specs.declared.Limits.{Limits}
-use Rattle.model.specs.Interface.{Call, opening, update, query, read, find, show_body, dry_run, compile, Answer, refused}
+use Rattle.model.specs.Interface.{Call, opening, update, query, read, find, show_body, dry_run, Answer, refused}
 use Rattle.model.specs.Calls.{body, refusal, judged}
 use Rattle.model.specs.Replica.{Replica, facts, perform}
 use Rattle.layout.specs.Layout.{Areas, parse, print, lengths}
@@ -21,7 +21,6 @@ unfit (query (read r o)) = refused 1
 unfit (query (find c s)) = refused 1
 unfit (query (show_body c s)) = body []
 unfit (query (dry_run c s)) = refused 1
-unfit (query (compile s)) = refused 1
 
 abbrev pub printed : {A : Type 0} → Limits → A × Replica → A × Areas
 printed l r = (r.0, print l r.1)

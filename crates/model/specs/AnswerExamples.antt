@@ -3,8 +3,8 @@
 use Rattle.std.specs.Prelude.{◌≡◌, refl, Bool, true, false, List, [], ◌∷◌, map, ℕ, ℤ, pos, negsuc, get_or, replicate}
 use Rattle.operation.specs.Encode.{encode}
 use Rattle.operation.specs.declared.Operation.TheVariants.{Load, Store, Set, Add}
-use Rattle.model.specs.Calls.{Opening, by_values, plain, Call, opening, optimistic, execute, final, open_reader, read, close_reader, find, show_body, dry_run, compile}
-use Rattle.model.specs.Calls.{Answer, refused, done, executed, committed, value, found, body, previewed, compiled, numbers, seen, leaves, spent}
+use Rattle.model.specs.Calls.{Opening, by_values, plain, Call, opening, optimistic, execute, final, open_reader, read, close_reader, find, show_body, dry_run}
+use Rattle.model.specs.Calls.{Answer, refused, done, executed, committed, value, found, body, previewed, numbers, seen, leaves, spent}
 use Rattle.model.specs.Start.{start_of}
 use Rattle.model.specs.Replica.{opened, calls}
 use Rattle.model.specs.Limits.{small}
@@ -27,7 +27,6 @@ answers =
     ∷ ((show_body 1 2, body (6 ∷ 7 ∷ [])), pos 6 ∷ pos 7 ∷ [])
     ∷ ((dry_run 1 2, previewed 3 true 9 (negsuc 6 ∷ pos 5 ∷ [])), pos 0 ∷ pos 3 ∷ pos 1 ∷ pos 9 ∷ negsuc 6 ∷ pos 5 ∷ [])  -- kept
     ∷ ((dry_run 1 2, previewed 3 false 9 (negsuc 6 ∷ pos 5 ∷ [])), pos 0 ∷ pos 3 ∷ pos 0 ∷ pos 9 ∷ negsuc 6 ∷ pos 5 ∷ [])  -- run again
-    ∷ ((compile (8 ∷ []), compiled 12 (6 ∷ 7 ∷ [])), pos 0 ∷ pos 12 ∷ pos 6 ∷ pos 7 ∷ [])
     -- a refusal's number, and as many zeros as the call has results
     ∷ ((opening (plain [] 3), refused 2), pos 2 ∷ [])
     ∷ ((opening (by_values 1 (pos 4 ∷ []) (pos 5 ∷ []) (pos 6 ∷ []) 3), refused 15), pos 15 ∷ [])
@@ -39,7 +38,6 @@ answers =
     ∷ ((close_reader 1, refused 12), pos 12 ∷ [])
     ∷ ((find 1 2, refused 3), pos 3 ∷ pos 0 ∷ pos 0 ∷ [])
     ∷ ((dry_run 1 2, refused 9), pos 9 ∷ pos 0 ∷ pos 0 ∷ pos 0 ∷ replicate 128 (pos 0))
-    ∷ ((compile (8 ∷ []), refused 18), pos 18 ∷ pos 0 ∷ replicate 177 (pos 0))
     ∷ []
 
 pub numbers-hold : map (λ x. numbers x.0.0 x.0.1) answers ≡ map (λ x. x.1) answers
@@ -91,7 +89,6 @@ compared_answers =
     ∷ (body (6 ∷ 7 ∷ []), body (6 ∷ 7 ∷ []))
     ∷ (previewed 3 true 9 (negsuc 6 ∷ pos 5 ∷ []), previewed 3 false 9 (negsuc 6 ∷ pos 5 ∷ []))
     ∷ (previewed 3 false 9 (negsuc 6 ∷ pos 5 ∷ []), previewed 3 false 9 (negsuc 6 ∷ pos 5 ∷ []))
-    ∷ (compiled 12 (6 ∷ 7 ∷ []), compiled 12 (6 ∷ 7 ∷ []))
     ∷ []
 
 pub seen-holds : map (λ x. seen x.0) compared_answers ≡ map (λ x. x.1) compared_answers

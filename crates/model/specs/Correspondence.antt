@@ -14,7 +14,7 @@ use Rattle.operation.specs.BodyLaws.{valid_drop}
 use Rattle.execution.specs.Run.{Run, start, steps}
 use Rattle.model.specs.declared.Limits.{Limits}
 use Rattle.model.specs.Lists.{pick, keep}
-use Rattle.model.specs.Interface.{optimistic, execute, final, open_reader, close_reader, Query, read, find, show_body, dry_run, compile, Call, opening, update, query}
+use Rattle.model.specs.Interface.{optimistic, execute, final, open_reader, close_reader, Query, read, find, show_body, dry_run, Call, opening, update, query}
 use Rattle.model.specs.Interface.{Committed, version, previewed, Yield, committed, observed, Answer, yielded}
 use Rattle.model.specs.Calls.{compared_commit, compared_observation, compared, seen, Transaction, is_key, leaves, bytes_of, refusal, judged}
 use Rattle.model.specs.Start.{Start, start_of}
@@ -186,7 +186,6 @@ module _ (l : Limits) where
         rw (index-map (λ (j : Pending). j.sent) (is_key c s) u.pending, picked-bytes (is_key c s) u.pending)
     reply-same (show_body c s) = rw (facts-same u, picked-bytes (is_key c s) u.pending)
     reply-same (dry_run c s) = let h = delivered-same c s in λ i. previewed (preview_of (h.0 i) (h.1 i).objects)
-    reply-same (compile s) = refl
 
     -- ---- every call
 

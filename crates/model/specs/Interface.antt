@@ -21,7 +21,6 @@ pub data Query : Type 0 where
   find : ℕ → ℕ → Query  -- client, sequence number
   show_body : ℕ → ℕ → Query  -- client, sequence number
   dry_run : ℕ → ℕ → Query  -- client, sequence number
-  compile : List ℕ → Query  -- the text of a formula
 
 pub data Call : Type 0 where
   opening : Opening → Call
@@ -59,7 +58,6 @@ pub data Observation : Type 0 where
   found : ℕ → ℕ → Observation  -- optimistic position, length of the body
   body : List ℕ → Observation
   previewed : Preview → Observation
-  compiled : ℕ → List ℕ → Observation  -- the length of the body, its bytes and zeros behind them
 
 -- what an accepted call yields
 pub data Yield : Type 0 where

@@ -3,7 +3,6 @@ pub mod Interface
 pub mod Calls
 pub mod Start
 pub mod DryRun
-pub mod Formula
 pub mod Serial
 pub mod Replica
 pub mod Answers
@@ -47,6 +46,5 @@ pub mod CallExamples
 pub mod ShapeExamples
 pub mod AnswerExamples
 pub mod PreviewExamples
-pub mod FormulaAnswers
 pub mod ExchangeExamples
 pub mod LookedAtExamples

@@ -10,12 +10,11 @@ use Rattle.execution.specs.Bounds.{Bounds, no_bounds, inside}
 use Rattle.execution.specs.Run.{Table, Run, start, ended, steps, whole, counted, whole_count, matches, over}
 use Rattle.model.specs.declared.Limits.{Limits}
 use Rattle.model.specs.Lists.{pick, keep, any, count, index, mapi}
-use Rattle.model.specs.Interface.{optimistic, execute, final, open_reader, close_reader, Query, read, find, show_body, dry_run, compile, Call, opening, update, query}
-use Rattle.model.specs.Interface.{Committed, Observation, version, found, body, previewed, compiled, Yield, done, executed, committed, observed, Answer}
+use Rattle.model.specs.Interface.{optimistic, execute, final, open_reader, close_reader, Query, read, find, show_body, dry_run, Call, opening, update, query}
+use Rattle.model.specs.Interface.{Committed, Observation, version, found, body, previewed, Yield, done, executed, committed, observed, Answer}
 use Rattle.model.specs.Calls.{Transaction, is_key, leaves, Facts, refusal, shown, judged}
 use Rattle.model.specs.Start.{Version, no_version, Start, start_of, Object, objects_from}
 use Rattle.model.specs.DryRun.{preview_of}
-use Rattle.model.specs.Formula.{formula_length, formula_body}
 use Rattle.model.specs.Serial.{is_some}
 
 -- a pending transaction with its run on record ("early results")
@@ -205,7 +204,6 @@ module _ (l : Limits) where
   reply u (show_body c s) = body (shown (keyed u c s).sent.bytes (refusal l (facts u) (query (find c s))))
   reply u (dry_run c s) =
       let r : Committed × Replica = delivered u c s in previewed (preview_of r.0 (map newest r.1.objects))
-  reply u (compile s) = compiled (formula_length s) (formula_body s)
 
   -- an accepted call: what it yields, and the replica after it
   unfoldable pub perform : Replica → Call → Yield × Replica

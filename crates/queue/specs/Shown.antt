@@ -27,7 +27,6 @@ part l (yielded (Yield.observed (Observation.version v))) = (0, 0)
 part l (yielded (Yield.observed (Observation.found i n))) = (body_at l i, n)
 part l (yielded (Yield.observed (Observation.body b))) = (0, 0)
 part l (yielded (Yield.observed (Observation.previewed p))) = (0, 0)
-part l (yielded (Yield.observed (Observation.compiled m bs))) = (0, 0)
 
 abbrev pub part_of : Limits → Areas → ℕ → ℕ → ℕ × ℕ
 part_of l a c s = part l (act l (find c s) a).0

@@ -8,10 +8,8 @@ ghost use Rattle.model.specs.Limits.{standard};
 ghost use Rattle.model.specs.Answers.{reply, execution, delivery, reading, finding};
 ghost use Rattle.queue.specs.Shown.{Shown};
 ghost use Rattle.dry_run.specs.Previews.{Previews};
-ghost use Rattle.formula_query.specs.Compiles.{Compiles};
 ghost use Rattle.layout.specs.Contract.{Met};
 
-use formula::Compiled;
 use model::{Delivery, Execution, Finding, Limits, Preview, Reading, Reply};
 
 // The limits of the standard kind ("cabinet unit").
@@ -130,12 +128,4 @@ pub fn dry_run(records: &[u8], bodies: &[u8], client: u32, sequence: u32) -> Pre
 {
     let shaped = standard_shape(records, bodies);
     replica_calls::dry_run(records, bodies, STANDARD, shaped, client, sequence)
-}
-
-// Formula: the body that a text becomes over the replica's objects, for an early delivery. It changes nothing.
-pub fn compile(records: &[u8], bodies: &[u8], text: &[u8]) -> Compiled
-    ensures { Compiles standard text.now (records.now, bodies.now) result }
-{
-    let shaped = standard_shape(records, bodies);
-    replica_calls::compile(records, bodies, STANDARD, shaped, text)
 }

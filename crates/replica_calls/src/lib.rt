@@ -8,9 +8,7 @@ ghost use Rattle.layout.specs.Fit.{fit};
 ghost use Rattle.layout.specs.Contract.{Supported, Met};
 ghost use Rattle.queue.specs.Shown.{Shown};
 ghost use Rattle.dry_run.specs.Previews.{Previews};
-ghost use Rattle.formula_query.specs.Compiles.{Compiles};
 
-use formula::Compiled;
 use model::{Delivery, Execution, Finding, Limits, Preview, Reading, Reply};
 
 // Open: its lengths, its counts and its start values are judged, in this order, before anything is written.
@@ -214,18 +212,5 @@ pub fn dry_run(
         dry_run::dry_run(records, bodies, l, client, sequence)
     } else {
         dry_run::refused(1)
-    }
-}
-
-// The formula.
-pub fn compile(records: &[u8], bodies: &[u8], l: Limits, shaped: bool, text: &[u8]) -> Compiled
-    requires supported { Supported l }
-    requires shaped_value { shaped ≡ fit l (records.now, bodies.now) }
-    ensures { Compiles l text.now (records.now, bodies.now) result }
-{
-    if shaped {
-        formula_query::compile(records, l, text)
-    } else {
-        formula_query::refused(1)
     }
 }

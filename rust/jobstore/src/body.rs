@@ -13,8 +13,6 @@ pub const BODY_LENGTH: usize = 177;
 /// assert_eq!(body.as_bytes().len(), 1 + 11 * 4);
 /// ```
 ///
-/// [`Replica::formula`](crate::Replica::formula) has the body of a job that is written as text, such as `o0 = o0 + 5`.
-///
 /// The builder writes down what it is told. That a body keeps the rules is for the store to say: it refuses any other
 /// with [`Refusal::Body`](crate::Refusal::Body), no operation at all and a seventeenth included.
 ///
@@ -51,11 +49,6 @@ impl Body {
     /// No operation yet.
     pub fn new() -> Body {
         Body { bytes: vec![0] }
-    }
-
-    /// A body that the library wrote.
-    pub(crate) fn from_bytes(bytes: &[u8]) -> Body {
-        Body { bytes: bytes.to_vec() }
     }
 
     /// The register takes the object's value: the job's own latest store of it, else what it read before, else the

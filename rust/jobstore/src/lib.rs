@@ -3,7 +3,6 @@
 //! A replica holds a table of objects, each with [`Bounds`] where it is given any. Jobs come to it early, in the order
 //! in which they will probably commit, and are worked on; they commit, one by one, at their final delivery. What that
 //! would do, a [dry run](Replica::dry_run) tells beforehand. Readers see the table as it was when they were opened.
-//! A job's [`Body`] is put together operation by operation, or written as a [formula](Replica::formula).
 //!
 //! ```
 //! use jobstore::{Body, Outcome, Refusal, Replica};
@@ -11,7 +10,6 @@
 //! # fn main() -> Result<(), Refusal> {
 //! let mut replica = Replica::opened(&[10, 20, 30], 0)?;
 //! let body = Body::new().load(0, 0).set(1, 5).add(0, 1).store(0, 0);
-//! assert_eq!(replica.formula("o0 = o0 + 5")?, body);
 //! replica.deliver_early((1, 1), &body)?;
 //! assert_eq!(replica.work(100)?.operations, 4);
 //! replica.open_reader(0)?;
@@ -38,7 +36,6 @@
 mod answers;
 mod body;
 mod bounds;
-mod formula;
 pub mod raw;
 mod refusal;
 mod replica;
@@ -46,7 +43,6 @@ mod replica;
 pub use answers::{Committed, Executed, Found, Key, Outcome, Preview, Reading, PREVIEW_PLACES};
 pub use body::{Body, BODY_LENGTH};
 pub use bounds::Bounds;
-pub use formula::{FormulaError, MOST_TEXT};
 pub use refusal::Refusal;
 pub use replica::{Replica, BODIES_LENGTH, RECORD_LENGTH};
 

@@ -8,8 +8,6 @@
 #![allow(clippy::missing_safety_doc, missing_docs)]
 
 use crate::answers::PREVIEW_PLACES;
-use crate::body::BODY_LENGTH;
-use std::os::raw::c_char;
 
 #[repr(C)]
 #[derive(Clone, Copy, PartialEq, Eq, Debug)]
@@ -61,14 +59,6 @@ pub struct Preview {
     pub kept: u32,
     pub stamp: u32,
     pub values: [i64; PREVIEW_PLACES],
-}
-
-#[repr(C)]
-#[derive(Clone, Copy, PartialEq, Eq, Debug)]
-pub struct Compiled {
-    pub number: u32,
-    pub length: u32,
-    pub body: [u8; BODY_LENGTH],
 }
 
 extern "C" {
@@ -159,12 +149,4 @@ extern "C" {
         client: u32,
         sequence: u32,
     ) -> Preview;
-    pub fn jobstore_formula(
-        record: *const u8,
-        record_length: usize,
-        bodies: *const u8,
-        bodies_length: usize,
-        text: *const c_char,
-        text_length: usize,
-    ) -> Compiled;
 }

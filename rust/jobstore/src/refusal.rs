@@ -35,22 +35,16 @@ pub enum Refusal {
     ReaderOpen = 11,
     /// Reader not open.
     ReaderClosed = 12,
-    /// No such object: its number is n or more.
+    /// Read: object n or more.
     Object = 13,
     /// Work count above 4,096.
     Count = 14,
     /// Opening: a lower bound above its upper, or a start value outside its bounds.
     Bounds = 15,
-    /// Formula: text outside the rules, or of more than 200 bytes.
-    Text = 18,
-    /// Formula: a fifth register wanted.
-    Registers = 19,
-    /// Formula: more than 16 operations.
-    Operations = 20,
 }
 
 impl Refusal {
-    /// Every refusal, by rising number. No call answers 16 or 17.
+    /// Every refusal, by its number from 1 on.
     pub const ALL: &'static [Refusal] = &[
         Refusal::Area,
         Refusal::Objects,
@@ -67,9 +61,6 @@ impl Refusal {
         Refusal::Object,
         Refusal::Count,
         Refusal::Bounds,
-        Refusal::Text,
-        Refusal::Registers,
-        Refusal::Operations,
     ];
 
     /// The papers' number.
@@ -89,7 +80,8 @@ impl Refusal {
     /// assert_eq!(Refusal::from_number(0), None);
     /// ```
     pub fn from_number(number: u32) -> Option<Refusal> {
-        Self::ALL.iter().copied().find(|refusal| refusal.number() == number)
+        let index = number.checked_sub(1)?;
+        Self::ALL.get(index as usize).copied()
     }
 
     /// The cause in words, as `jobstore_refusal_text` of the C header gives it.
@@ -110,9 +102,6 @@ impl Refusal {
             Refusal::Object => "the object's number is not below the number of objects",
             Refusal::Count => "the work count is above 4,096",
             Refusal::Bounds => "a lower bound is above its upper, or a start value is outside its bounds",
-            Refusal::Text => "the text is outside the rules of a formula",
-            Refusal::Registers => "the formula wants a fifth register",
-            Refusal::Operations => "the formula has more than 16 operations",
         }
     }
 }

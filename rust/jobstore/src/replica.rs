@@ -1,9 +1,7 @@
-//! A replica in two areas, and its eleven calls. The unsafe code of the package is here.
+//! A replica in two areas, and its ten calls. The unsafe code of the package is here.
 
 use crate::answers::{Committed, Executed, Found, Key, Outcome, Preview, Reading};
-use crate::body::Body;
 use crate::bounds::Bounds;
-use crate::formula::FormulaError;
 use crate::raw;
 use crate::refusal::{judged, Refusal};
 use std::fmt;
@@ -210,62 +208,6 @@ impl<A: AsRef<[u8]>> Replica<A> {
         };
         let outcome = Outcome::from_number(outcome);
         judged(number, Preview { outcome, kept: kept == 1, stamp, values })
-    }
-
-    /// Formula: the body of a job that is written as text, for a replica of as many objects.
-    ///
-    /// ```
-    /// # use jobstore::{Body, Refusal, Replica};
-    /// # fn main() -> Result<(), Refusal> {
-    /// let mut replica = Replica::opened(&[140, 3, 0], 0)?;
-    /// let body = replica.formula("o2 = (o0 - 120) / 2 + o1; o0 = 0")?;
-    /// replica.deliver_early((1, 1), &body)?;
-    /// assert_eq!(replica.dry_run((1, 1))?.values[..3], [0, 3, 13]);
-    ///
-    /// // The left operand is worked out in register 0 here, the right one in the next.
-    /// let half = Body::new().load(0, 0).set(1, 120).subtract(0, 1).divide(0, 2);
-    /// assert_eq!(body, half.load(1, 1).add(0, 1).store(0, 2).set(0, 0).store(0, 0));
-    /// # Ok(())
-    /// # }
-    /// ```
-    ///
-    /// A formula is one assignment or more, with `;` between neighbours. An assignment is an object, `=` and an
-    /// expression; an expression is terms with `+` or `-` between them; a term is a factor, and after it any number of
-    /// `/` with a whole number from 1 to 1,000,000; a factor is a whole number up to 9,223,372,036,854,775,807, an
-    /// object, `-` before a factor, or an expression in brackets. An object is `o` and its number. Spaces may stand
-    /// anywhere but inside a number or after `o`, and a number may begin with zeros. The text has at most
-    /// [200](crate::MOST_TEXT) bytes.
-    ///
-    /// The job does what is written, step by step, equal ranks from left to right. Each quotient is rounded where it
-    /// stands, as [`Body::divide`] rounds, a sum or difference that leaves 64 bits ends the job, and
-    /// [`Bounds`](crate::Bounds) are asked of what an assignment stores. A later assignment sees what an earlier one
-    /// stored.
-    ///
-    /// # Errors
-    ///
-    /// A [`FormulaError`], which has the place in the text too. In this order: [`Refusal::Area`], [`Refusal::Text`],
-    /// [`Refusal::Object`], [`Refusal::Registers`] (a right operand takes one more than its left one),
-    /// [`Refusal::Operations`] (each number, each object of an expression, each sign, divisor and assignment is one;
-    /// `-` before a factor is 0 less the factor, and that 0 a number and a left operand).
-    pub fn formula(&self, text: &str) -> Result<Body, FormulaError> {
-        self.compiled(text).map_err(|refusal| FormulaError::new(refusal, text, |other| self.compiled(other).err()))
-    }
-
-    /// The library's own answer.
-    fn compiled(&self, text: &str) -> Result<Body, Refusal> {
-        let (record, bodies) = (self.record(), self.bodies());
-        // SAFETY: the slices are valid for their lengths, and the call writes nothing.
-        let raw::Compiled { number, length, body } = unsafe {
-            raw::jobstore_formula(
-                record.as_ptr(),
-                record.len(),
-                bodies.as_ptr(),
-                bodies.len(),
-                text.as_ptr().cast(),
-                text.len(),
-            )
-        };
-        judged(number, ()).map(|()| Body::from_bytes(&body[..length as usize]))
     }
 }
 

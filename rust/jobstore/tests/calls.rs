@@ -509,7 +509,6 @@ fn refused_areas() -> Result<(), Refusal> {
         assert_eq!(replica.find((1, 1)), Err(Refusal::Area));
         assert_eq!(replica.show_body((1, 1)), None);
         assert_eq!(replica.dry_run((1, 1)), Err(Refusal::Area));
-        assert_eq!(replica.formula("o0 = 1").map_err(Refusal::from), Err(Refusal::Area));
     }
     assert_eq!(refused(&mut short, |r| r.open(&[1], 0)), Some(Refusal::Area));
     let mut no_bodies = Replica::over(vec![0; RECORD_LENGTH], Vec::new());

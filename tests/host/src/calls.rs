@@ -1,7 +1,7 @@
-//! The eleven calls: as methods, and with their answers as data, so that lists of calls can be kept, repeated and shortened.
+//! The ten calls: as methods, and with their answers as data, so that lists of calls can be kept, repeated and shortened.
 
 use crate::body::decode;
-use jobstore::raw::{Committed, Compiled, Executed, Found, Preview, Value};
+use jobstore::raw::{Committed, Executed, Found, Preview, Value};
 use jobstore::PREVIEW_PLACES;
 use std::fmt;
 
@@ -39,7 +39,6 @@ pub enum Call {
     Find { client: u32, sequence: u32 },
     ShowBody { client: u32, sequence: u32 },
     DryRun { client: u32, sequence: u32 },
-    Formula { text: Vec<u8> },
 }
 
 #[derive(Clone, PartialEq, Eq, Debug)]
@@ -51,10 +50,9 @@ pub enum Answer {
     Found(Found),
     Body(Vec<u8>),
     Preview(Box<Preview>),
-    Compiled(Box<Compiled>),
 }
 
-/// What has the eleven calls. Answers are the papers': a number, and what stands beside it.
+/// What has the ten calls. Answers are the papers': a number, and what stands beside it.
 pub trait Calls {
     fn open(&mut self, opening: &Opening) -> u32;
     fn early(&mut self, client: u32, sequence: u32, body: &[u8]) -> u32;
@@ -68,8 +66,6 @@ pub trait Calls {
     fn show_body(&self, client: u32, sequence: u32) -> &[u8];
     /// As [`previewed`] has it from the final delivery.
     fn dry_run(&self, client: u32, sequence: u32) -> Preview;
-    /// Of the state only the number of objects matters.
-    fn formula(&self, text: &[u8]) -> Compiled;
 
     fn perform(&mut self, call: &Call) -> Answer {
         match *call {
@@ -83,7 +79,6 @@ pub trait Calls {
             Call::Find { client, sequence } => Answer::Found(self.find(client, sequence)),
             Call::ShowBody { client, sequence } => Answer::Body(self.show_body(client, sequence).to_vec()),
             Call::DryRun { client, sequence } => Answer::Preview(Box::new(self.dry_run(client, sequence))),
-            Call::Formula { ref text } => Answer::Compiled(Box::new(self.formula(text))),
         }
     }
 }
@@ -102,7 +97,6 @@ impl Call {
             Call::Find { .. } => "find",
             Call::ShowBody { .. } => "show body",
             Call::DryRun { .. } => "dry run",
-            Call::Formula { .. } => "formula",
         }
     }
 }
@@ -118,7 +112,6 @@ impl Answer {
             Answer::Found(found) => Some(found.number),
             Answer::Body(_) => None,
             Answer::Preview(preview) => Some(preview.number),
-            Answer::Compiled(compiled) => Some(compiled.number),
         }
     }
 
@@ -182,7 +175,6 @@ impl fmt::Debug for Call {
             Call::Find { client, sequence } => write!(out, "find ({client}, {sequence})"),
             Call::ShowBody { client, sequence } => write!(out, "show body ({client}, {sequence})"),
             Call::DryRun { client, sequence } => write!(out, "dry run ({client}, {sequence})"),
-            Call::Formula { text } => write!(out, "formula '{}'", text.escape_ascii()),
         }
     }
 }

@@ -63,7 +63,6 @@ impl Comparison {
             Call::DryRun { client, sequence } | Call::Final { client, sequence } => {
                 self.compare_dry_run(client, sequence, &before)?;
             }
-            Call::Formula { .. } => self.compare_formula(&answer)?,
             _ => {}
         }
         self.compare_areas(&before)?;
@@ -88,15 +87,9 @@ impl Comparison {
         }
     }
 
-    /// The same call by the Rust package. Its opening takes no number of objects beside the values, and its formula a
-    /// text of characters.
+    /// The same call by the Rust package. Its opening takes no number of objects beside the values.
     fn compare_face(&self, call: &Call, before: &Library, answer: &Answer) -> Result<(), Difference> {
-        let taken = match call {
-            Call::Open(opening) => opening.n as usize == opening.values.len(),
-            Call::Formula { text } => std::str::from_utf8(text).is_ok(),
-            _ => true,
-        };
-        if !taken {
+        if matches!(call, Call::Open(opening) if opening.n as usize != opening.values.len()) {
             return Ok(());
         }
         let mut face = Face::from(before.clone());
@@ -158,16 +151,6 @@ impl Comparison {
         let after = parse(self.limits, &copy.record, &copy.bodies);
         let delivered = previewed(committed, after.iter().flat_map(State::committed));
         same("dry run and the final delivery on a copy", preview, delivered)
-    }
-
-    /// No early delivery finds a flaw in a formula's body. Its key may be pending or the places taken: that is not asked.
-    fn compare_formula(&self, answer: &Answer) -> Result<(), Difference> {
-        let Answer::Compiled(compiled) = answer else { unreachable!() };
-        if compiled.number != 0 {
-            return Ok(());
-        }
-        let body = &compiled.body[..compiled.length as usize];
-        same("a formula's body breaks a rule", self.library.clone().early(0, u32::MAX, body) == 6, false)
     }
 
     fn compare_areas(&self, before: &Library) -> Result<(), Difference> {

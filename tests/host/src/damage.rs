@@ -7,7 +7,6 @@ use crate::calls::{Call, Calls, Opening};
 use crate::comparison::{Comparison, Difference};
 use crate::coverage::Coverage;
 use crate::fields::narrowest;
-use crate::formula_texts::right;
 use crate::independent::{Bounds, Independent, State};
 use crate::layout::{self, cell, parse, print, set_cell};
 use crate::library::Library;
@@ -239,7 +238,6 @@ fn every_call(random: &mut Random, mix: &Mix, state: &State) -> Vec<Call> {
         Call::Find { client, sequence },
         Call::ShowBody { client, sequence },
         Call::DryRun { client, sequence },
-        Call::Formula { text: right(random, STANDARD, state.objects.len()).1 },
         Call::Early { client, sequence: fresh, body: valid(random, state.objects.len(), taste) },
         Call::Work { count: 7 },
         Call::Final { client, sequence },
@@ -313,7 +311,7 @@ pub fn required() -> Vec<String> {
     let kinds = ["bit flipped", "bytes overwritten", "rows or bodies exchanged", "cell changed", "forged"];
     let damages = kinds.iter().flat_map(|kind| [format!("{kind}: passes"), format!("{kind}: fails")]);
     let sentences = layout::SENTENCES.iter().map(|sentence| format!("fails: {sentence}"));
-    let calls = ["open", "early", "work", "final", "open reader", "read", "close", "find", "dry run", "formula"];
+    let calls = ["open", "early", "work", "final", "open reader", "read", "close", "find", "dry run"];
     let refused = calls.iter().map(|call| format!("{call} 1"));
     let unfinished = "forged: passes, with transactions unfinished";
     let others = ["other lengths: fails", "show body: empty", unfinished, FIRST_RUN_AGAIN];

@@ -6,7 +6,6 @@ use crate::calls::{Call, Calls};
 use crate::comparison::{same, Comparison, Difference};
 use crate::coverage::Coverage;
 use crate::fields::{fields, Field, Meaning, Place, KINDS};
-use crate::formula_texts::right;
 use crate::independent::{Bounds, State, Version};
 use crate::layout::{cell, parse, print, set_cell};
 use crate::library::Library;
@@ -68,7 +67,6 @@ fn calls(random: &mut Random, state: &State) -> Vec<Call> {
         Call::OpenReader { reader: closed },
         Call::ShowBody { client, sequence },
         Call::DryRun { client, sequence },
-        Call::Formula { text: right(random, STANDARD, n).1 },
     ]
 }
 
@@ -183,7 +181,7 @@ pub fn required() -> Vec<String> {
     names.extend(["lower bound", "upper bound"].map(either).concat());
     names.extend(["number of objects", "number pending"].map(fails));
     names.extend(["unused object", "unused row", "unused body", "tail of a body"].map(fails));
-    for call in ["find", "read", "work", "final", "close", "early", "open reader", "show body", "dry run", "formula"] {
+    for call in ["find", "read", "work", "final", "close", "early", "open reader", "show body", "dry run"] {
         names.extend(either(format!("{call} on areas")));
     }
     names

@@ -1,10 +1,9 @@
 //! The Rust package, its answers turned back into the papers' numbers.
 
 use crate::calls::{Calls, Opening};
-use crate::formula::refused;
 use crate::library::Library;
-use jobstore::raw::{Committed, Compiled, Executed, Found, Preview, Value};
-use jobstore::{Bounds, Refusal, Replica, BODY_LENGTH, PREVIEW_PLACES};
+use jobstore::raw::{Committed, Executed, Found, Preview, Value};
+use jobstore::{Bounds, Refusal, Replica, PREVIEW_PLACES};
 
 pub struct Face {
     replica: Replica,
@@ -98,19 +97,6 @@ impl Calls for Face {
             Err(refusal) => {
                 Preview { number: refusal.number(), outcome: 0, kept: 0, stamp: 0, values: [0; PREVIEW_PLACES] }
             }
-        }
-    }
-
-    /// The package takes characters: a text of other bytes is not for it.
-    fn formula(&self, text: &[u8]) -> Compiled {
-        match self.replica.formula(std::str::from_utf8(text).unwrap()) {
-            Ok(given) => {
-                let bytes = given.as_bytes();
-                let mut body = [0; BODY_LENGTH];
-                body[..bytes.len()].copy_from_slice(bytes);
-                Compiled { number: 0, length: bytes.len() as u32, body }
-            }
-            Err(error) => refused(error.refusal.number()),
         }
     }
 }

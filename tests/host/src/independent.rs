@@ -4,9 +4,8 @@
 use crate::body::{decode, quotient, Operation};
 use crate::calls::{previewed, Calls, Opening};
 use crate::coverage::Coverage;
-use crate::formula;
 use crate::limits::{Limits, CLIENTS, LARGEST_BUDGET, REGISTERS};
-use jobstore::raw::{Committed, Compiled, Executed, Found, Preview, Value};
+use jobstore::raw::{Committed, Executed, Found, Preview, Value};
 
 #[derive(Clone, Copy, PartialEq, Eq, Debug)]
 pub struct Version {
@@ -412,11 +411,6 @@ impl Calls for Independent {
         let mut copy = Independent { state: self.state.clone(), ..Independent::new(self.limits) };
         let committed = copy.deliver_final(client, sequence);
         previewed(committed, copy.state.iter().flat_map(State::committed))
-    }
-
-    fn formula(&self, text: &[u8]) -> Compiled {
-        let Some(state) = &self.state else { return formula::refused(1) };
-        formula::compiled(text, state.objects.len(), self.limits.operations)
     }
 }
 

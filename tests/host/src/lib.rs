@@ -1,5 +1,5 @@
 //! What the proved library is tested and measured with: the papers once more in Rust, random lists of calls, damaged
-//! areas, three replicas, neighbours that change places, texts of formulas, and the benchmark's workload.
+//! areas, three replicas, neighbours that change places, and the benchmark's workload.
 
 pub mod agreement;
 pub mod bodies;
@@ -13,10 +13,6 @@ pub mod each_field;
 pub mod exchange;
 pub mod face;
 pub mod fields;
-pub mod formula;
-pub mod formula_comparison;
-pub mod formula_texts;
-pub mod formula_value;
 pub mod independent;
 pub mod layout;
 pub mod library;

@@ -2,7 +2,7 @@
 //! as C sees them; `face.rs` has the Rust package.
 
 use crate::calls::{Calls, Opening};
-use jobstore::raw::{self, Committed, Compiled, Executed, Found, Preview, Value};
+use jobstore::raw::{self, Committed, Executed, Found, Preview, Value};
 use jobstore::{BODIES_LENGTH, RECORD_LENGTH};
 
 /// The two areas that each call is lent. They are public, so that tests can damage them.
@@ -104,11 +104,5 @@ impl Calls for Library {
     fn dry_run(&self, client: u32, sequence: u32) -> Preview {
         let (record, bodies) = (&self.record, &self.bodies);
         unsafe { raw::jobstore_dry_run(record.as_ptr(), record.len(), bodies.as_ptr(), bodies.len(), client, sequence) }
-    }
-
-    fn formula(&self, text: &[u8]) -> Compiled {
-        let (record, bodies) = (&self.record, &self.bodies);
-        let (text, length) = (text.as_ptr().cast(), text.len());
-        unsafe { raw::jobstore_formula(record.as_ptr(), record.len(), bodies.as_ptr(), bodies.len(), text, length) }
     }
 }

@@ -3,7 +3,6 @@
 
 use crate::bodies::{broken, valid, Taste};
 use crate::calls::{Call, Opening};
-use crate::formula_texts::{right, wrong};
 use crate::independent::State;
 use crate::limits::{Limits, CLIENTS, LARGEST_BUDGET};
 use crate::openings::{miscounted, misplaced, Objects};
@@ -23,15 +22,15 @@ pub struct Mix {
     in_order: usize,
     /// Work comes in small counts.
     small_work: bool,
-    /// early, work, final, open reader, read, close, find, show body, dry run, formula, open.
-    weights: [usize; 11],
+    /// early, work, final, open reader, read, close, find, show body, dry run, open.
+    weights: [usize; 10],
 }
 
-const BUSY: [usize; 11] = [30, 20, 28, 4, 8, 3, 3, 3, 8, 4, 1];
-const FILLING: [usize; 11] = [70, 8, 6, 2, 4, 1, 4, 4, 4, 2, 1];
-const READING: [usize; 11] = [22, 12, 26, 14, 14, 4, 3, 3, 4, 4, 2];
-const EAGER: [usize; 11] = [30, 40, 28, 1, 1, 1, 1, 1, 12, 2, 0];
-const KEEPING: [usize; 11] = [30, 5, 30, 20, 5, 1, 1, 1, 4, 2, 0];
+const BUSY: [usize; 10] = [30, 20, 28, 4, 8, 3, 3, 3, 8, 1];
+const FILLING: [usize; 10] = [70, 8, 6, 2, 4, 1, 4, 4, 4, 1];
+const READING: [usize; 10] = [22, 12, 26, 14, 14, 4, 3, 3, 4, 2];
+const EAGER: [usize; 10] = [30, 40, 28, 1, 1, 1, 1, 1, 12, 0];
+const KEEPING: [usize; 10] = [30, 5, 30, 20, 5, 1, 1, 1, 4, 0];
 
 impl Mix {
     pub fn new(random: &mut Random, limits: Limits) -> Mix {
@@ -117,7 +116,6 @@ impl Mix {
             6 => Call::Find { client, sequence },
             7 => Call::ShowBody { client, sequence },
             8 => Call::DryRun { client, sequence },
-            9 => self.formula(random, state, careless),
             _ if random.percent(70) => Call::Open(self.refused_opening(random)),
             _ => Call::Open(self.opening(random)),
         }
@@ -132,14 +130,6 @@ impl Mix {
         };
         let body = if careless { broken(random, n, self.taste) } else { valid(random, n, self.taste) };
         Call::Early { client, sequence, body }
-    }
-
-    /// Careful lists have wrong texts too: elsewhere no refusal needs a text.
-    fn formula(&self, random: &mut Random, state: Option<&State>, careless: bool) -> Call {
-        let n = state.map_or(3, |state| state.objects.len());
-        let wrongly = careless || random.percent(30);
-        let text = if wrongly { wrong(random, self.limits, n) } else { right(random, self.limits, n).1 };
-        Call::Formula { text }
     }
 
     /// Mostly the client's next number, at times one with room below it or one below a pending number.

@@ -3,7 +3,6 @@
 use crate::body::{decode, Operation, FLAWS, LARGEST_DIVISOR};
 use crate::calls::{Answer, Call, Opening};
 use crate::coverage::Coverage;
-use crate::formula_comparison;
 use crate::independent::{overlay, Bounds, State, Transaction, Version};
 use crate::limits::{Limits, LARGEST_BUDGET};
 use jobstore::raw::{Committed, Executed, Preview};
@@ -53,9 +52,6 @@ pub fn observe(
         }
         (Call::DryRun { client, sequence }, Answer::Preview(preview), Some(before), _) if preview.number == 0 => {
             dry_run(coverage, preview, before.place(*client, *sequence).unwrap(), before);
-        }
-        (Call::Formula { text }, _, Some(before), _) => {
-            formula_comparison::observe(coverage, text, before.objects.len(), limits.operations);
         }
         _ => {}
     }
@@ -173,7 +169,7 @@ fn partly_run(pending: &Transaction) -> bool {
     pending.run.outcome.is_none() && pending.run.program_counter > 0
 }
 
-pub fn verdict(call: &str, outcome: u32, kept: u32) -> String {
+fn verdict(call: &str, outcome: u32, kept: u32) -> String {
     format!("{call}: outcome {outcome}, {}", if kept == 1 { "kept" } else { "run again" })
 }
 
@@ -275,7 +271,6 @@ const NUMBERS: &[(&str, &[u32])] = &[
     ("close", &[0, 1, 10, 12]),
     ("find", &[0, 1, 3, 8]),
     ("dry run", &[0, 1, 3, 4, 8, 9]),
-    ("formula", &[0, 1, 13, 18, 19, 20]),
 ];
 
 const EVENTS: &[&str] = &[
@@ -382,12 +377,6 @@ const EVENTS: &[&str] = &[
     "dry run: run again, and a value changes",
     "dry run: run again, finished but a read changed",
     "dry run: would take the highest stamp",
-    "formula 18: text over 200 bytes",
-    "formula: as many operations as can be",
-    "formula: four registers",
-    "formula: loads the last object",
-    "formula: stores the last object",
-    "formula: text of 200 bytes",
     "read: an older version than the newest",
     "read: a version with an older one",
     "read: an untouched object, at a start stamp above 0 and below the reader's",

@@ -4,9 +4,8 @@
 
 use crate::body::{decode, quotient, Operation};
 use crate::calls::{previewed, Calls, Opening};
-use crate::formula::compiled;
 use crate::limits::{Limits, CLIENTS, LARGEST_BUDGET, REGISTERS};
-use jobstore::raw::{Committed, Compiled, Executed, Found, Preview, Value};
+use jobstore::raw::{Committed, Executed, Found, Preview, Value};
 
 #[derive(Clone, Copy, PartialEq, Eq, Debug)]
 pub struct Object {
@@ -194,10 +193,6 @@ impl Calls for Serial {
         let mut copy = self.clone();
         let committed = copy.deliver_final(client, sequence);
         previewed(committed, copy.objects.iter().map(|object| object.value))
-    }
-
-    fn formula(&self, text: &[u8]) -> Compiled {
-        compiled(text, self.objects.len(), self.limits.operations)
     }
 }
 

@@ -16,9 +16,6 @@ pub const UPPER: i64 = 1_000_000;
 const HOT: usize = 8;
 const CLIENTS: usize = 16;
 
-/// Document 02's formula: nine operations.
-pub const ROUTE: &[u8] = b"o2 = (o0 - 120) / 2 + o1; o0 = 0";
-
 #[derive(Clone, Copy)]
 pub struct Workload {
     pub seed: u64,

@@ -1,10 +1,9 @@
 //! Random lists of calls: the proved library, the independent implementation and the plain table, answers and bytes.
 
-use jobstore::raw::{Committed, Compiled, Executed, Preview, Value};
+use jobstore::raw::{Committed, Executed, Preview, Value};
 use jobstore::{Body, PREVIEW_PLACES};
 use jobstore_tests::calls::{Answer, Call, Calls, Opening};
 use jobstore_tests::comparison::{compare_lists, Comparison};
-use jobstore_tests::formula::refused;
 use jobstore_tests::independent::Independent;
 use jobstore_tests::layout::{parse, print};
 use jobstore_tests::library::Library;
@@ -14,7 +13,6 @@ use jobstore_tests::observation::required;
 use jobstore_tests::random::Random;
 use jobstore_tests::serial::Serial;
 use jobstore_tests::settings::{lists, seed};
-use jobstore_tests::workload::ROUTE;
 
 #[test]
 fn random_lists() {
@@ -74,27 +72,6 @@ fn dry_runs_of_the_small_depot_on_all_three() {
     tells(&mut all, 3, [0, 0, 1], &[10, 10, 30]);
     let refused = Preview { number: 8, outcome: 0, kept: 0, stamp: 0, values: [0; PREVIEW_PLACES] };
     answers(&mut all, Call::DryRun { client: 4, sequence: 1 }, Answer::Preview(Box::new(refused)));
-}
-
-/// Document 02's formula, and its body delivered: (140 - 120) / 2 + 3 is 13.
-#[test]
-fn a_formula_on_all_three() {
-    let mut all = Comparison::new(Library::new());
-    answers(&mut all, Call::Formula { text: ROUTE.to_vec() }, Answer::Compiled(Box::new(refused(1))));
-    answers(&mut all, Call::Open(Opening::plain(&[140, 3, 0], 0)), Answer::Number(0));
-    let half = Body::new().load(0, 0).set(1, 120).subtract(0, 1).divide(0, 2);
-    let route = half.load(1, 1).add(0, 1).store(0, 2).set(0, 0).store(0, 0);
-    let mut compiled = Compiled { number: 0, length: 100, ..refused(0) };
-    compiled.body[..100].copy_from_slice(route.as_bytes());
-    answers(&mut all, Call::Formula { text: ROUTE.to_vec() }, Answer::Compiled(Box::new(compiled)));
-    for (text, number) in [("o0 = 1;", 18), ("o3 = 1", 13), ("o0 = ----1", 19), ("o0=1-1-1-1-1-1-1-1-1", 20)] {
-        let text = text.as_bytes().to_vec();
-        answers(&mut all, Call::Formula { text }, Answer::Compiled(Box::new(refused(number))));
-    }
-    answers(&mut all, Call::Early { client: 1, sequence: 1, body: route.into() }, Answer::Number(0));
-    tells(&mut all, 1, [0, 0, 1], &[0, 3, 13]);
-    let committed = Committed { number: 0, outcome: 0, kept: 0, stamp: 1, stored: 2, operations: 9 };
-    answers(&mut all, Call::Final { client: 1, sequence: 1 }, Answer::Committed(committed));
 }
 
 #[test]
@@ -158,9 +135,6 @@ fn small_limits() {
             assert_eq!(answer.seen(), plain, "seed {}: {call:?}", seed().wrapping_add(list));
             if let Answer::Preview(preview) = &answer {
                 assert_eq!(preview.values[SMALL.objects..], [0; PREVIEW_PLACES - SMALL.objects]);
-            }
-            if let Answer::Compiled(compiled) = &answer {
-                assert!(compiled.length as usize <= SMALL.place_length(), "20 comes sooner");
             }
             let state = independent.state.as_ref().unwrap();
             let (record, bodies) = print(SMALL, state);

@@ -1,10 +1,10 @@
 //! The randomised comparisons from the command line. Each failure names the arguments that repeat it.
 //!
-//!     compare [--damage | --fields | --replicas | --exchange | --formula] [--lists N] [--seed S] [--quiet]
+//!     compare [--damage | --fields | --replicas | --exchange] [--lists N] [--seed S] [--quiet]
 
 use jobstore_tests::comparison::Difference;
 use jobstore_tests::coverage::Coverage;
-use jobstore_tests::{agreement, comparison, damage, each_field, exchange, formula_comparison, observation};
+use jobstore_tests::{agreement, comparison, damage, each_field, exchange, observation};
 use std::process::ExitCode;
 
 type Comparison = fn(u64, u64) -> Result<Coverage, Difference>;
@@ -33,10 +33,6 @@ fn arguments() -> Option<Arguments> {
             "--fields" => (given.comparison, given.required) = (each_field::compare_fields, each_field::required),
             "--replicas" => (given.comparison, given.required) = (agreement::compare_plans, agreement::required),
             "--exchange" => (given.comparison, given.required) = (exchange::compare_exchanges, exchange::required),
-            "--formula" => {
-                (given.comparison, given.required) =
-                    (formula_comparison::compare_formulas, formula_comparison::required)
-            }
             "--lists" => given.lists = words.next()?.parse().ok()?,
             "--seed" => given.seed = words.next()?.parse().ok()?,
             "--quiet" => given.quiet = true,
@@ -48,9 +44,7 @@ fn arguments() -> Option<Arguments> {
 
 fn main() -> ExitCode {
     let Some(Arguments { comparison, required, lists, seed, quiet }) = arguments() else {
-        eprintln!(
-            "compare [--damage | --fields | --replicas | --exchange | --formula] [--lists N] [--seed S] [--quiet]"
-        );
+        eprintln!("compare [--damage | --fields | --replicas | --exchange] [--lists N] [--seed S] [--quiet]");
         return ExitCode::from(2);
     };
     match comparison(seed, lists) {

@@ -6,7 +6,7 @@ use jobstore::Key;
 use jobstore_tests::calls::Calls;
 use jobstore_tests::library::Library;
 use jobstore_tests::limits::{LARGEST_BUDGET, STANDARD};
-use jobstore_tests::workload::{plan, Plan, Workload, OBJECTS, ROUTE};
+use jobstore_tests::workload::{plan, Plan, Workload, OBJECTS};
 
 /// Turns behind the last reader's opening: by then nearly every object has been stored since.
 const BEHIND: usize = 300;
@@ -58,12 +58,11 @@ fn versions(areas: &Library) -> f64 {
 }
 
 /// What is measured of a stage: single calls where it begins, then the calls of its turns.
-pub const CALLS: [&str; 14] = [
+pub const CALLS: [&str; 13] = [
     "read",
     "find",
     "show body",
     "dry run",
-    "formula",
     "work, nothing left",
     "open",
     "open reader",
@@ -77,10 +76,10 @@ pub const CALLS: [&str; 14] = [
 pub const READ: usize = 0;
 pub const FIND: usize = 1;
 pub const DRY_RUN: usize = 3;
-pub const CLOSES: [usize; 3] = [8, 9, 10];
-pub const EARLY: usize = 11;
-pub const WORK: usize = 12;
-pub const FINAL: usize = 13;
+pub const CLOSES: [usize; 3] = [7, 8, 9];
+pub const EARLY: usize = 10;
+pub const WORK: usize = 11;
+pub const FINAL: usize = 12;
 
 /// One implementation at a stage.
 pub struct Measured<C> {
@@ -131,7 +130,6 @@ impl<C: Calls + Clone> Measured<C> {
             batched(|index| start.find(self.key(index).client, self.key(index).sequence)),
             batched(|index| start.show_body(self.key(index).client, self.key(index).sequence).len()),
             batched(|index| start.dry_run(self.key(index).client, self.key(index).sequence)),
-            batched(|_| start.formula(ROUTE)),
             batched(|_| copy.work(LARGEST_BUDGET)),
             batched(|_| turns::open(&mut copy, &self.plan.opening)),
             each_time_on(&without, |store| store.open_reader(newest)),
