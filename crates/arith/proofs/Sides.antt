@@ -3,7 +3,7 @@ use Prim.Native.Nat.{ℕ, zero, suc, ◌+◌, ◌-◌}
 use mathlib.Core.Path.{◌≡◌, refl, sym, ap, ◌∙◌, subst}
 use mathlib.Core.Bool.{true, false}
 use native.Mathlib.Omega.{arith}
-use native.Mathlib.Numerals.{add_one}
+use native.Mathlib.Numerals.{add-one}
 use lib.Dec.{T}
 use lib.IntN.{ℤ, pos, negsuc, neg_ℤ, ◌-ℤ◌, nat_abs}
 use lib.Signed.{mag, lt_z}
@@ -55,7 +55,7 @@ module _ {x : ℤ} (f : SFits w64 x) where
     flipped_read = rw flipped (read_back {z = pos (mag x)} f.sfits)
 
     pub nat_abs-low : nat_abs x ≡ mag x + 1
-    nat_abs-low = ap nat_abs low ∙ sym (add_one (mag x))
+    nat_abs-low = ap nat_abs low ∙ sym (add-one (mag x))
 
     pub side_low : (q : ℕ) → (q ≡ 0 → ⊥) → negsuc (q - 1) ≡ on_side x q
     side_low q h = rw low (negsuc-neg q h)

@@ -1,7 +1,7 @@
 -- The laws of the definitions in Integer: the range, equality, bits and division; and sums of signed numbers for `omega`. Assumes nothing.
 use Rattle.std.specs.Prelude.{ℕ, zero, suc, ◌+◌, ◌-◌, ◌*◌, ◌/◌, ◌%◌, ◌^◌, ◌≤◌, ◌<◌, ◌≡◌, Bool, true, false, not, cond, ◌||◌, ◌&&◌, T, ltb, eqb, ℤ, pos, negsuc, neg_ℤ, ◌+ℤ◌, ◌-ℤ◌}
 use Rattle.std.proofs.Math.Path.{refl}
-use Rattle.std.proofs.Common.{sym, ap, subst, ◌∙◌, suc-mul, le-mul_of_pos_right, div-add-mod', mod-lt, add_one, arith, eq-eqb, eqb-true, ltb-true, ltb-false, lt-ltb, le-ltb, SFits, to_z, of_z, to_z-of_z}
+use Rattle.std.proofs.Common.{sym, ap, subst, ◌∙◌, suc-mul, le-mul_of_pos_right, div-add-mod', mod-lt, add-one, arith, eq-eqb, eqb-true, ltb-true, ltb-false, lt-ltb, le-ltb, SFits, to_z, of_z, to_z-of_z}
 use Rattle.std.proofs.Math.IntN.{sub_ℕ}
 use Rattle.std.specs.Int.Signed.{mag, lt_z}
 use Rattle.std.proofs.lemmas.Bool.{eqb-false}
@@ -165,7 +165,7 @@ module _ (q r d : ℕ) where
   down = down_by (ltb d (2 * r)) (eqb d (2 * r)) (eqb (q % 2) 1) refl refl refl
 
 pub next-times : (q d : ℕ) → (q + 1) * d ≡ q * d + d
-next-times q d = rw add_one (suc-mul q d)
+next-times q d = rw add-one (suc-mul q d)
 
 -- what holds of a magnitude's quotient, by the two ways in which it is rounded
 pub rounding : (a d : ℕ) (P : ℕ → Type 0) → (Up (a / d) (a % d) d → P (a / d + 1)) → (Down (a / d) (a % d) d → P (a / d)) → P (rounded a d)

@@ -1,4 +1,6 @@
 // Signed 64-bit numbers: checked sums and differences, and division to the nearest whole number.
+#![tactic(auto)]
+
 ghost use Rattle.std.specs.Prelude.{◌≡◌, ◌^◌, ◌≤◌, ◌<◌, ◌+ℤ◌, ◌-ℤ◌, nat_abs};
 ghost use Rattle.arith.specs.Integer.{bounded, rounds_up, rounded, on_side, quotient};
 

@@ -1,6 +1,6 @@
 -- A block moved and a block filled with 0: what they do to the cells, and a turn of a loop that copies. Assumes nothing.
 use Rattle.std.specs.Prelude.{ℕ, ◌+◌, ◌-◌, ◌*◌, ◌≤◌, ◌<◌, ◌≡◌, List, length, take, drop, set, get_or, replicate}
-use Rattle.std.proofs.Common.{ap, ◌∙◌, arith, add_one, length-drop, length-take-le}
+use Rattle.std.proofs.Common.{ap, ◌∙◌, arith, add-one, length-drop, length-take-le}
 use Rattle.std.proofs.lemmas.List.{length-replicate}
 use Rattle.std.proofs.Math.Seq.{paste, paste-suc}
 use Rattle.cells.specs.Cells.{cells, splice}
@@ -32,7 +32,7 @@ cells-fill xs f t h g =
 
 module _ (d s a : List ℕ) (at k : ℕ) (e : a ≡ paste d at s k) where
   pub copy_step : (v : ℕ) → at + k < length d → k < length s → v ≡ get_or s k 0 → set a (at + k) v ≡ paste d at s (k + 1)
-  copy_step v h l f = rw (e, f, add_one) (paste-suc d at s k 0 h l)
+  copy_step v h l f = rw (e, f, add-one) (paste-suc d at s k 0 h l)
 
   pub copy_done : k ≡ length s → a ≡ splice d at s
   copy_done f = e ∙ rw f (splice-paste d at s)

@@ -2,7 +2,7 @@
 -- Assumes nothing.
 use Rattle.std.specs.Prelude.{ℕ, zero, suc, ◌+◌, ◌*◌, ◌/◌, ◌%◌, ◌^◌, ◌≤◌, ◌<◌, ◌≡◌, length, take, drop, set, get_or, replicate}
 use Rattle.std.proofs.Math.Path.{refl, sym, ap}
-use Rattle.std.proofs.Common.{◌∙◌, subst, div-lt_iff_lt-mul, pow-suc, zero-add, le_of_suc-le-suc, add_one, length-append, length-drop, drop_of_length-le, take-append-drop, drop-cons, drop-drop, take_at, length-take-le, get_or-drop, take-add, take_all}
+use Rattle.std.proofs.Common.{◌∙◌, subst, div-lt_iff_lt-mul, pow-suc, zero-add, le_of_suc-le-suc, add-one, length-append, length-drop, drop_of_length-le, take-append-drop, drop-cons, drop-drop, take_at, length-take-le, get_or-drop, take-add, take_all}
 use Rattle.std.proofs.Math.Logic.{dite}
 use mathlib.Core.List.{List, [], ◌∷◌, ◌++◌}
 use Rattle.std.proofs.Math.Nat.{mod-add-div}
@@ -78,7 +78,7 @@ module _ (n : ℕ) (xs : List ℕ) (e : length xs ≡ n * 8) where
   length_cells-whole = omega (arith, length-cells xs)
 
   pub cells-next : (i : ℕ) → i < n → drop i (cells xs) ≡ get_or (cells xs) i 0 ∷ drop (i + 1) (cells xs)
-  cells-next i h = rw add_one (drop-cons (cells xs) i 0 (rw length_cells-whole h))
+  cells-next i h = rw add-one (drop-cons (cells xs) i 0 (rw length_cells-whole h))
 
   pub cells-end : (i : ℕ) → n ≤ i → drop i (cells xs) ≡ []
   cells-end i h = drop_of_length-le (cells xs) {i = i} (rw length_cells-whole h)

@@ -1,6 +1,6 @@
 -- Laws of `splice`: its length, a splice of one element, and what code leaves that is one. Assumes nothing.
 use Rattle.std.specs.Prelude.{ℕ, ◌+◌, ◌≤◌, ◌<◌, ◌≡◌, List, [], ◌∷◌, ◌++◌, length, take, drop, set}
-use Rattle.std.proofs.Common.{sym, append_assoc, arith, add_one, length-append, length-take, length-drop, drop-drop}
+use Rattle.std.proofs.Common.{sym, append_assoc, arith, add-one, length-append, length-take, length-drop, drop-drop}
 use Rattle.std.proofs.lemmas.List.{set_split}
 use Rattle.std.proofs.Math.Seq.{take-length, paste}
 use Rattle.cells.specs.Cells.{splice}
@@ -11,7 +11,7 @@ length-splice xs i vs h = simp (length-append, length-take, length-drop) (omega 
 
 pub splice-one : (xs : List ℕ) (k v : ℕ) → k < length xs → splice xs k (v ∷ []) ≡ set xs k v
 unfolding splice
-splice-one xs k v h = rw add_one (sym (set_split xs k v h))
+splice-one xs k v h = rw add-one (sym (set_split xs k v h))
 
 -- a part of k elements that was lent and came back as vs
 pub splice-back : (xs ys vs : List ℕ) (i k : ℕ) → ys ≡ vs → k ≡ length vs → take i xs ++ (ys ++ drop k (drop i xs)) ≡ splice xs i vs

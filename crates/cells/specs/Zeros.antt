@@ -1,6 +1,6 @@
 -- Whether every element of a list is 0: of bytes and of cells, and a turn of a scan by OR. Assumes nothing.
 use Rattle.std.specs.Prelude.{ℕ, zero, suc, ◌+◌, ◌-◌, ◌*◌, ◌/◌, ◌≤◌, ◌<◌, ◌≡◌, refl, Bool, true, false, ◌&&◌, List, [], ◌∷◌, ◌++◌, eqb, length, take, drop, get_or, replicate}
-use Rattle.std.proofs.Common.{sym, ap, ap₂, ◌∙◌, arith, add_one, length-drop, take-append-drop, ne_eqb}
+use Rattle.std.proofs.Common.{sym, ap, ap₂, ◌∙◌, arith, add-one, length-drop, take-append-drop, ne_eqb}
 use Rattle.std.proofs.Math.Bool.{and-true, and_assoc}
 use Rattle.std.specs.Int.Bits.{bit_or, or_zero_l, or_add_and}
 use Rattle.std.proofs.lemmas.Nat.{and_le_l, and_le_r}
@@ -74,7 +74,7 @@ or_zeros (suc a) b t =
 module _ (xs : List ℕ) (a i to : ℕ) where
   pub scan_step : i < to → to ≤ length xs
       → eqb a 0 && zeros (slice i to xs) ≡ eqb (bit_or a (get_or xs i 0)) 0 && zeros (slice (i + 1) to xs)
-  scan_step h l = rw (slice-cons i to xs 0 h l, add_one) (sym (or_zeros a (get_or xs i 0) (zeros (slice (suc i) to xs))))
+  scan_step h l = rw (slice-cons i to xs 0 h l, add-one) (sym (or_zeros a (get_or xs i 0) (zeros (slice (suc i) to xs))))
 
   pub scan-done : i ≡ to → eqb a 0 && zeros (slice i to xs) ≡ eqb a 0
   scan-done e = rw (e, slice_empty) (and-true (eqb a 0))

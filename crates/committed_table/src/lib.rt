@@ -1,5 +1,7 @@
 // The committed state, from which a run's table starts: its values as a local array, and where its stamps and bounds stand in the record area, which is
 // lent beside them.
+#![tactic(auto)]
+
 ghost use Rattle.std.specs.Prelude.{◌≡◌, length};
 ghost use Rattle.layout.specs.Offsets.{Sane};
 ghost use Rattle.committed_table.specs.Committed.{Laid, BlocksSorted, Committed, objects_place};

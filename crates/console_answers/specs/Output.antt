@@ -1,6 +1,6 @@
 -- What the line of an answer says. Assumes nothing.
 use Rattle.std.specs.Prelude.{ℕ, suc, ◌+◌, ◌^◌, ◌<◌, ◌≡◌, refl, Bool, true, false, List, ◌∷◌, ℤ, pos, length, take, set, get_or}
-use Rattle.std.proofs.Common.{sym, add_one, arith, take-suc, take-suc-set}
+use Rattle.std.proofs.Common.{sym, add-one, arith, take-suc, take-suc-set}
 use Rattle.std.specs.Int.{w64}
 use mir.Val.{to_z, bool_byte}
 use Rattle.std.proofs.lemmas.Int.{to_z_pos}
@@ -25,4 +25,4 @@ pub next-value : {a b c d : ℤ} (values line : List ℤ) (i : ℕ) → take (4 
     → take (4 + (i + 1)) (set line (4 + i) (get_or values i (pos 0))) ≡ a ∷ b ∷ c ∷ d ∷ take (i + 1) values
 next-value values line i begun more room =
     let one_on : 4 + (i + 1) ≡ suc (4 + i) = omega arith in
-    rw (one_on, take-suc-set line (4 + i) (get_or values i (pos 0)) room, begun, add_one, take-suc values i (pos 0) more)
+    rw (one_on, take-suc-set line (4 + i) (get_or values i (pos 0)) room, begun, add-one, take-suc values i (pos 0) more)

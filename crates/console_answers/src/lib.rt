@@ -1,4 +1,6 @@
 // The answers of the calls as text, each as one line of numbers in a lent buffer. What writes them stands in `console`.
+#![tactic(auto)]
+
 ghost use Rattle.std.specs.Prelude.{◌≡◌, ◌∷◌};
 ghost use Rattle.model.specs.Calls.{execute, final, open_reader, read, find, dry_run};
 ghost use Rattle.model.specs.Answers.{reply, execution, delivery, reading, finding, preview};

@@ -1,5 +1,7 @@
 // The dry run: what the final delivery of a pending key would come to now, and the value that each object would then hold. Its tests and its choice are
 // the final delivery's own; both areas are lent to be read.
+#![tactic(auto)]
+
 ghost use Rattle.std.specs.Prelude.{◌≡◌, true, length, get_or};
 ghost use Rattle.cells.specs.Cells.{cells};
 ghost use Rattle.layout.specs.Offsets.{Sane, size_at};

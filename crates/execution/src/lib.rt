@@ -1,5 +1,7 @@
 // How far a run of a transaction's body has come, what its sets say beside a table (document 01, "A job's body"), and what stands beside the values of
 // a lent one. The definitions and laws of runs are in specs/. Registers and both sets stand in lent arrays; four counts go by value.
+#![tactic(auto)]
+
 ghost use Rattle.std.specs.Prelude.{◌≡◌, true, ◌+◌, ◌*◌, ◌<◌, ◌≤◌, length};
 ghost use Rattle.cells.specs.Cells.{cells};
 ghost use Rattle.operation.specs.Body.{operations};

@@ -1,7 +1,7 @@
 -- One operation on lent arrays: a law for each way out of the code. Assumes nothing.
 use Rattle.std.specs.Prelude.{ℕ, suc, ◌+◌, ◌≤◌, ◌<◌, ◌≡◌, refl, Bool, true, false, cond, List, ℤ, pos, get_or, set}
 use Rattle.std.proofs.Common.{arith}
-use Rattle.std.proofs.Math.Numerals.{add_one}
+use Rattle.std.proofs.Math.Numerals.{add-one}
 use Rattle.arith.specs.Integer.{fits, pick_checked, bounded}
 use Rattle.arith.specs.declared.Checked.TheVariants.{Value, Overflow}
 use Rattle.operation.specs.Body.{listed}
@@ -30,12 +30,12 @@ settled-sum g r z = by (fits z)
 module _ (T : Table) (c : Counts) (registers : List ℤ) (ro : List ℕ) (rv : List ℤ) (wo : List ℕ) (wv : List ℤ) where
   -- new registers, and k operations passed over
   pub went : (k : ℕ) (t : Counts) (g : List ℤ) → t ≡ advanced k c → run_of_arrays t g ro rv wo wv ≡ apply T (go g k) (run_of_arrays c registers ro rv wo wv)
-  went k t g e = rw (e, add_one (c.counter + k))
+  went k t g e = rw (e, add-one (c.counter + k))
 
   -- an early stop
   pub halted : (s : Stop) (t : Counts) → t ≡ stopped (outcome_of s) c → run_of_arrays t registers ro rv wo wv ≡ apply T (halt s) (run_of_arrays c registers ro rv wo wv)
   unfolding entries listed
-  halted s t e = rw (e, add_one c.counter)
+  halted s t e = rw (e, add-one c.counter)
 
   one_on : c.counter + 0 + 1 ≡ suc c.counter
   one_on = omega arith
@@ -58,7 +58,7 @@ module _ (T : Table) (c : Counts) (registers : List ℤ) (ro : List ℕ) (rv : L
           ≡ apply T (get r o) (run_of_arrays c registers ro rv wo wv)
       load_new h l room =
           rw
-          (add_one c.counter, add_one c.reads, lookup_absent wo wv c.writes o j w a, lookup_absent ro rv c.reads o k v h, append-last ro rv c.reads o (T.look o) room l)
+          (add-one c.counter, add-one c.reads, lookup_absent wo wv c.writes o j w a, lookup_absent ro rv c.reads o k v h, append-last ro rv c.reads o (T.look o) room l)
 
   -- a store outside the bounds
   pub store_outside : (o : ℕ) (v : ℤ) (t : Counts) → T.allow o v ≡ false → t ≡ stopped 3 c → run_of_arrays t registers ro rv wo wv ≡ apply T (put o v) (run_of_arrays c registers ro rv wo wv)
@@ -76,4 +76,4 @@ module _ (T : Table) (c : Counts) (registers : List ℤ) (ro : List ℕ) (rv : L
     store_new h =
         let e : j ≡ c.writes = (let z = w.within in omega arith) in
         rw
-        (a, e, add_one c.counter, add_one c.writes, append-last wo wv c.writes o v room l, update-absent _ o v (lookup_absent wo wv c.writes o j w h))
+        (a, e, add-one c.counter, add-one c.writes, append-last wo wv c.writes o v room l, update-absent _ o v (lookup_absent wo wv c.writes o j w h))

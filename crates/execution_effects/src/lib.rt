@@ -1,5 +1,7 @@
 // What an operation does to a run: registers and program counter; a load by write set, read set and table, recorded in the read set; a store into
 // the write set, where the object's bounds allow the value.
+#![tactic(auto)]
+
 ghost use Rattle.std.specs.Prelude.{◌≡◌, List, ℕ, ◌+◌, ◌*◌, ◌≤◌, ◌<◌, ℤ, length, set};
 ghost use Rattle.cells.specs.Cells.{cells};
 ghost use Rattle.execution.specs.Run.{Table, Beside, table_of, object_count, apply, get as get-move, put as put-move, register};

@@ -1,4 +1,6 @@
 // Answers in the papers' numbers, as structs that C can take: 0 and the results, or a refusal's number and zeros.
+#![tactic(auto)]
+
 ghost use Rattle.std.specs.Prelude.{◌+◌};
 ghost use Rattle.model.specs.Calls.{preview_places};
 ghost use Rattle.model.specs.Answers.{reply, execution, delivery, reading, finding, preview};

@@ -1,4 +1,6 @@
 // The tests of a final delivery, on the record area alone: whether it is accepted, where its transaction stands, and which timestamp it takes.
+#![tactic(auto)]
+
 ghost use Rattle.layout.specs.Offsets.{Sane};
 ghost use Rattle.layout.specs.Holds.{Holding};
 ghost use Rattle.final_admission.specs.Admission.{Admits};

@@ -1,6 +1,6 @@
 -- What `install` asks and leaves, and the laws of its turns. Assumes nothing.
 use Rattle.std.specs.Prelude.{◌≡◌, true, List, [], map, ℕ, suc, ◌+◌, ◌*◌, ◌-◌, ◌^◌, ◌≤◌, ◌<◌, ℤ, pos, length, get_or}
-use Rattle.std.proofs.Common.{sym, ap, ap₂, ◌∙◌, subst, arith, mul-le-mul_right, add_one, to_z, of_z, to_z-of_z}
+use Rattle.std.proofs.Common.{sym, ap, ap₂, ◌∙◌, subst, arith, mul-le-mul_right, add-one, to_z, of_z, to_z-of_z}
 use Rattle.std.proofs.Math.Option.{none, some}
 use Rattle.std.proofs.lemmas.List.{length-map}
 use Rattle.std.specs.Int.Signed.{mag}
@@ -168,7 +168,7 @@ module _ {l : Limits} {b rs : List ℕ} {t n : ℕ} {os : List ℕ} {vs : List �
         let fit = pushed-fits l.readers u.timestamp t u.readers old v p.holds.fits.readers.0 p.next k.word is-sound.1 shape old-fits in
         subst (λ (z : List (List Version)). Holds l (put_mid a m c ys) (with_objects z u))
         (install-one t (opens u.readers) (entries i os vs) o u.objects new v
-        ∙ ap (λ (e : List Entry). model.install t (opens u.readers) e u.objects) (sym (ap (λ (j : ℕ). entries j os vs) (add_one i) ∙ entries-end os vs i)))
+        ∙ ap (λ (e : List Entry). model.install t (opens u.readers) e u.objects) (sym (ap (λ (j : ℕ). entries j os vs) (add-one i) ∙ entries-end os vs i)))
         (write-object l k.sane c now h o there x fit (put_mid a m c ys) (ap (put_mid a m c) (written ys ey) ∙ ap₂ (λ (a m : ℕ). put_mid a m c (uncells (block l.readers x))) ea em))
 
 -- past the last entry

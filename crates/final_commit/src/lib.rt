@@ -1,5 +1,7 @@
 // A commit's write set in the record area: each object written gets its value as one new version, and its versions that no open reader holds any
 // more go.
+#![tactic(auto)]
+
 ghost use Rattle.std.specs.Prelude.{◌≤◌};
 ghost use Rattle.execution.specs.Arrays.{capacity, entries};
 ghost use Rattle.layout.specs.Offsets.{Sane};

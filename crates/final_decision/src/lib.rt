@@ -1,4 +1,6 @@
 // The choice of a final delivery, before anything is written: the early results of the transaction, or its new execution.
+#![tactic(auto)]
+
 ghost use Rattle.std.specs.Prelude.{◌≡◌, ◌<◌, length};
 ghost use Rattle.cells.specs.Cells.{cells};
 ghost use Rattle.execution.specs.Arrays.{Room};

@@ -1,4 +1,6 @@
 // Final delivery: a refusal, or the commit of the transaction, its early results or its new execution.
+#![tactic(auto)]
+
 ghost use Rattle.std.specs.Prelude.{◌≡◌, true, ◌<◌};
 ghost use Rattle.layout.specs.Offsets.{Sane};
 ghost use Rattle.model.specs.Calls.{clients, final};

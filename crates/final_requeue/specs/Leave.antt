@@ -1,6 +1,6 @@
 -- Which pending transactions leave, and what the functions that take them out ask and leave. Assumes nothing.
 use Rattle.std.specs.Prelude.{◌≡◌, refl, Bool, true, false, not, cond, ◌&&◌, List, [], ◌∷◌, ◌++◌, ℕ, suc, ◌+◌, ◌-◌, ◌^◌, ◌≤◌, ◌<◌, eqb, leb, length, take, drop, get_or}
-use Rattle.std.proofs.Common.{sym, ap, ap₂, ◌∙◌, append_assoc, arith, add_one, length-drop, drop_of_length-le, drop-cons, drop-drop, ne_eqb, eqb-true, le-leb, leb-true, leb-false}
+use Rattle.std.proofs.Common.{sym, ap, ap₂, ◌∙◌, append_assoc, arith, add-one, length-drop, drop_of_length-le, drop-cons, drop-drop, ne_eqb, eqb-true, le-leb, leb-true, leb-false}
 use Rattle.std.proofs.Math.Option.{none}
 use Rattle.std.proofs.lemmas.List.Edits.{take-paste, drop-paste, length-paste}
 use Rattle.std.proofs.lemmas.Bool.{eqb-false, lt-leb}
@@ -125,7 +125,7 @@ module _ {l : Limits} {b : List ℕ} {cl sq n i₀ i : ℕ} (k : Passing l b cl 
             within = omega arith;
             left = λ p. let m = index (gone cl sq) (drop (suc i) p.replica.pending) in
                 let z : i + suc m ≡ i + 1 + m = omega arith in
-                k.left p ∙ ap (i +◌) (next p ∙ rw (sym (seen p) ∙ e)) ∙ z ∙ ap (λ (x : ℕ). i + 1 + index (gone cl sq) (drop x p.replica.pending)) (sym (add_one i));
+                k.left p ∙ ap (i +◌) (next p ∙ rw (sym (seen p) ∙ e)) ∙ z ∙ ap (λ (x : ℕ). i + 1 + index (gone cl sq) (drop x p.replica.pending)) (sym (add-one i));
           }
 
 -- ---- closed up

@@ -1,4 +1,6 @@
 // The pending transactions that leave at a commit, taken out of the two lent areas.
+#![tactic(auto)]
+
 ghost use Rattle.std.specs.Prelude.{◌≡◌, ◌+◌, ◌*◌, ◌≤◌, length};
 ghost use Rattle.layout.specs.Offsets.{Sane};
 ghost use Rattle.final_requeue.specs.RunsMoved.{Moving, Moves, moved};

@@ -1,6 +1,6 @@
 -- What `restart_from` asks and leaves, and the laws of its turns. Assumes nothing.
 use Rattle.std.specs.Prelude.{◌≡◌, refl, List, [], ◌∷◌, ◌++◌, map, ℕ, zero, suc, ◌+◌, ◌*◌, ◌-◌, ◌≤◌, ◌<◌, length, take, drop, get_or, set, replicate}
-use Rattle.std.proofs.Common.{sym, ap, ap₂, ◌∙◌, subst, arith, mul-le-mul_right, not-suc-le-zero, le_of_suc-le-suc, add_one, length-set}
+use Rattle.std.proofs.Common.{sym, ap, ap₂, ◌∙◌, subst, arith, mul-le-mul_right, not-suc-le-zero, le_of_suc-le-suc, add-one, length-set}
 use Rattle.std.proofs.Math.Option.{none}
 use Rattle.cells.specs.Cells.{splice}
 use Rattle.model.specs.declared.Limits.{Limits}
@@ -65,5 +65,5 @@ module _ {l : Limits} {b : List ℕ} {u : Replica} {from n i : ℕ} (s : Sane l)
             queue = set r.queue i (restarted (get_or r.queue i d));
             holds = restart_row l s b (with_pending r.queue u) r.holds i k d c (ec ∙ ap₂ (λ (x y : ℕ). splice b ((x + 1) * 8) (replicate y 0)) ea w);
             count = length-set r.queue i (restarted (get_or r.queue i d)) ∙ r.count;
-            left = ap (λ (j : ℕ). restarted_from j (set r.queue i (restarted (get_or r.queue i d)))) (add_one i) ∙ one-restarted r.queue i d k ∙ r.left;
+            left = ap (λ (j : ℕ). restarted_from j (set r.queue i (restarted (get_or r.queue i d)))) (add-one i) ∙ one-restarted r.queue i d k ∙ r.left;
           }

@@ -1,7 +1,7 @@
 -- What the walk over the pending transactions asks and leaves, and the laws of its turns. Assumes nothing.
 use Rattle.std.specs.Prelude.{◌≡◌, refl, Bool, true, false, ℕ, suc, ◌+◌, ◌≤◌, ◌<◌, length, take}
 use Rattle.std.proofs.Math.Path.{sym, ap, ap₂}
-use Rattle.std.proofs.Common.{◌∙◌, subst, arith, add_one, take_all, take-suc}
+use Rattle.std.proofs.Common.{◌∙◌, subst, arith, add-one, take_all, take-suc}
 use Rattle.std.proofs.Math.Bool.{cond}
 use Rattle.std.proofs.Math.Option.{none}
 use mathlib.Core.List.{List, [], ◌∷◌, ◌++◌, map, append_assoc, append-nil}
@@ -148,7 +148,7 @@ module _ {l : Limits} {b ps : List ℕ} {qs : List ℕ} {n i : ℕ} (s : Sane l)
                   ∙ ap (take i js ++◌) (next ∙ rw (sym told ∙ f))
                   ∙ sym (append_assoc (take i js) (j ∷ []) (model.walk (over j.run.writes k.now) (drop (suc i) js)))
                   ∙ ap (◌++ model.walk (over j.run.writes k.now) (drop (suc i) js)) (sym (take-suc js i (model.pending_of none) there))
-                  ∙ ap (λ (x : ℕ). take x js ++ model.walk (over j.run.writes k.now) (drop x js)) (sym (add_one i));
+                  ∙ ap (λ (x : ℕ). take x js ++ model.walk (over j.run.writes k.now) (drop x js)) (sym (add-one i));
             }
 
 abbrev pub walking_holding : {l : Limits} {b ps : List ℕ} → Walking l b ps → Holding l b

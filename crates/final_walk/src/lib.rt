@@ -1,5 +1,7 @@
 // The walk over the pending transactions after a commit: the first whose recorded reads no longer match its table, and all after it, go back to
 // their start. A table is not gathered for it: an array says in which cell of the record area each object's value stands.
+#![tactic(auto)]
+
 ghost use Rattle.std.specs.Prelude.{◌≡◌, length, get_or};
 ghost use Rattle.cells.specs.Cells.{cells};
 ghost use Rattle.execution.specs.Run.{matches};

@@ -6,7 +6,7 @@
 use Rattle.std.specs.Prelude.{◌≡◌, refl, Bool, false, not, cond, List, [], ◌∷◌, ◌++◌, map, ℕ, zero, suc, ◌+◌, ◌≤◌, length, get_or, take, drop}
 use Rattle.std.proofs.Common.{sym, ap, subst, ◌∙◌, arith}
 use Rattle.std.proofs.Math.Bool.{true}
-use Rattle.std.proofs.Math.Numerals.{add_one}
+use Rattle.std.proofs.Math.Numerals.{add-one}
 use borrow.Author.Tests.{le-leb}
 use Rattle.std.proofs.Math.Dec.{leb}
 use Rattle.std.proofs.lemmas.List.{length-map}
@@ -113,7 +113,7 @@ module _ (l : Limits) (u : Replica) where
   pub delivery-counted : (c s : ℕ) → refusal l (facts u) (final c s) ≡ 0
       → (number_of_delivery u.timestamp ≡ 0) × ((delivered (counters u)).timestamp ≡ (call l u (final c s)).1.timestamp)
   unfolding call perform commit
-  delivery-counted c s e = rw (e, (is_last c s).0 e, add_one u.timestamp) (refl, refl)
+  delivery-counted c s e = rw (e, (is_last c s).0 e, add-one u.timestamp) (refl, refl)
 
   -- one that is refused with 9 is so here too, and nothing changes
   pub delivery-refused : (c s : ℕ) → refusal l (facts u) (final c s) ≡ 9 → (number_of_delivery u.timestamp ≡ 9) × (delivered (counters u) ≡ counters u)

@@ -1,5 +1,7 @@
 // Thin forms for the cabinet's host, over records that it lends: the counters of a replica, and the pending transactions as a list.
 // Each takes a record apart for a covered function and stores what that returned; every branch stands in a covered function.
+#![tactic(auto)]
+
 ghost use Rattle.std.specs.Prelude.{◌≡◌};
 ghost use Rattle.host.specs.Counting.{timestamp_after, number_of_delivery, delivered, finished_after, worked};
 ghost use Rattle.host.specs.HostRestart.{unbegun, restarted_behind};

@@ -1,5 +1,7 @@
 // Where each part of a replica's two areas lies, computed from the limits. The layout itself and its laws are in specs/.
 // Offsets into the record area are in cells of 8 bytes, offsets into the body area and both lengths in bytes.
+#![tactic(auto)]
+
 ghost use Rattle.std.specs.Prelude.{◌≡◌, ◌*◌, ◌≤◌, ◌<◌, eqb, length};
 ghost use Rattle.cells.specs.Cells.{cells};
 ghost use Rattle.model.specs.Lists.{index};

@@ -1,6 +1,6 @@
 -- Start values beside their bounds, one after another. Assumes nothing.
 use Rattle.std.specs.Prelude.{◌≡◌, ℕ, suc, ◌+◌, ◌-◌, ◌%◌, ◌^◌, ◌<◌, ◌≤◌, Bool, true, false, not, ◌&&◌, List, [], ◌∷◌, length, drop, ℤ, pos, FitsSigned, bit_or, int_lt, slice_index_or, refl}
-use Rattle.std.proofs.Common.{sym, ap, ◌∙◌, arith, add_one, drop_of_length-le, drop-cons, to_z, of_z, to_z-of_z}
+use Rattle.std.proofs.Common.{sym, ap, ◌∙◌, arith, add-one, drop_of_length-le, drop-cons, to_z, of_z, to_z-of_z}
 use Rattle.std.proofs.Math.Bool.{and-false}
 use Rattle.std.specs.Int.Bits.{or_add_and}
 use Rattle.std.proofs.lemmas.Nat.{and_le_l, and_le_r}
@@ -41,7 +41,7 @@ module _ (vs los his : List ℤ) (lows : length los ≡ length vs) (highs : leng
 
     step : inside_from i ≡ (not (int_lt v lo) && not (int_lt hi v)) && inside_from (i + 1)
     step =
-        rw (drop-cons vs i (pos 0) h, drop-cons los i (pos 0) (omega arith), drop-cons his i (pos 0) (omega arith), add_one)
+        rw (drop-cons vs i (pos 0) h, drop-cons los i (pos 0) (omega arith), drop-cons his i (pos 0) (omega arith), add-one)
         (ap (λ (t : Bool). t && all₂ starts_inside (bounds_from (drop (suc i) los) (drop (suc i) his)) (drop (suc i) vs)) (starts_is (record { lower = lo; upper = hi }) v))
 
     pub starts_below : int_lt v lo ≡ true → inside_from i ≡ false

@@ -1,7 +1,7 @@
 -- What an opening needs of the areas it is lent, what it leaves in the objects' cells, and a turn of the loop that writes them. Assumes nothing.
 use Rattle.std.specs.Prelude.{◌≡◌, ℕ, suc, ◌+◌, ◌-◌, ◌*◌, ◌^◌, ◌<◌, ◌≤◌, List, [], ◌∷◌, ◌++◌, map, length, take, drop, set, replicate, ℤ, pos, slice_index_or, slice_set}
 use Rattle.std.proofs.Math.Path.{refl, sym, ap}
-use Rattle.std.proofs.Common.{ap₂, ◌∙◌, mul_assoc, add_one, drop-cons, take_at, take_all}
+use Rattle.std.proofs.Common.{ap₂, ◌∙◌, mul_assoc, add-one, drop-cons, take_at, take_all}
 use mathlib.Core.List.{append_assoc, append-nil}
 use native.Mathlib.Omega.{arith}
 use Rattle.std.proofs.Math.ListN.{length-append, length-set, length-replicate, length-map, drop_of_length-le}
@@ -161,7 +161,7 @@ module _ (r t : ℕ) (vs los his : List ℤ) (ys : List ℕ) where
 
     module _ (h : i < length vs) where
       here : drop i vs ≡ slice_index_or vs i (pos 0) ∷ drop (i + 1) vs
-      here = rw add_one (drop-cons vs i (pos 0) h)
+      here = rw add-one (drop-cons vs i (pos 0) h)
 
       -- the zeros behind this turn's object
       rest : ℕ
@@ -257,9 +257,9 @@ module _ (r t : ℕ) (vs los his : List ℤ) (ys : List ℕ) where
               front = p.front ++ object;
               size = omega (arith, length-append p.front object, length-append (new x lo hi) (lo ∷ hi ∷ []), length-replicate {A = ℕ} (2 * r) 0, p.size);
               now = written ∙ ap uncells (bounded x lo hi b eb);
-              fits = rw (add_one, take-suc vs i (pos 0) h) (all_append ValueFits (take i vs) (slice_index_or vs i (pos 0)) p.fits f);
-              lowers = rw (add_one, take-suc los i (pos 0) jl) (all_append ValueFits (take i los) (slice_index_or los i (pos 0)) p.lowers fl);
-              uppers = rw (add_one, take-suc his i (pos 0) jh) (all_append ValueFits (take i his) (slice_index_or his i (pos 0)) p.uppers fh);
+              fits = rw (add-one, take-suc vs i (pos 0) h) (all_append ValueFits (take i vs) (slice_index_or vs i (pos 0)) p.fits f);
+              lowers = rw (add-one, take-suc los i (pos 0) jl) (all_append ValueFits (take i los) (slice_index_or los i (pos 0)) p.lowers fl);
+              uppers = rw (add-one, take-suc his i (pos 0) jh) (all_append ValueFits (take i his) (slice_index_or his i (pos 0)) p.uppers fh);
               done =
                   ap (λ (f : List ℕ). f ++ others) (uncells-append p.front object)
                   ∙ append_assoc (uncells p.front) (uncells object) others

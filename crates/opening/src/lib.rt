@@ -1,4 +1,6 @@
 // Opening: both lent areas are filled, whatever is in them, with the replica of the start values, their bounds and the start timestamp.
+#![tactic(auto)]
+
 ghost use Rattle.std.specs.Prelude.{◌≡◌, true, not, length};
 ghost use Rattle.model.specs.Lists.{all₂};
 ghost use Rattle.model.specs.Calls.{by_values, miscounted, bounds_from, starts_inside};

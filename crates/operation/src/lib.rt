@@ -1,4 +1,6 @@
 // The operations of a transaction's body (document 01, "A job's body"): their kinds, their rules, and one operation decoded from the bytes of a body.
+#![tactic(auto)]
+
 ghost use Rattle.std.specs.Prelude.{◌≡◌, ◌<◌, ◌≤◌, length};
 ghost use Rattle.operation.specs.Body.{size, operation_at, body_length};
 

@@ -1,4 +1,6 @@
 // The rules of a body's operations (document 01, "A job's body"), of all eight kinds, as columns of limits. The answer is exact.
+#![tactic(auto)]
+
 ghost use Rattle.std.specs.Prelude.{◌≡◌, ◌≤◌, length};
 ghost use Rattle.operation.specs.Body.{body_length, size, allowed_at, each};
 ghost use Rattle.operation.specs.Columns.{most_operations};

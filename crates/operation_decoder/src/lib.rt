@@ -1,4 +1,6 @@
 // Decodes a whole body (document 01, "A job's body"): the check of its rules, on bytes of any length and contents.
+#![tactic(auto)]
+
 ghost use Rattle.std.specs.Prelude.{◌≡◌, ◌+◌, ◌*◌, ◌≤◌, length};
 ghost use Rattle.std.proofs.Math.Seq.{slice};
 ghost use Rattle.operation.specs.Body.{body_length, size, allowed_at, each, decoded};

@@ -2,7 +2,7 @@
 use Prim.Native.Nat.{ℕ, zero, suc, ◌+◌, ◌-◌, ◌*◌, ◌<◌}
 use Rattle.std.specs.Prelude.{◌≡◌, List, [], ◌∷◌, Bool, false, cond, eqb, get_or}
 use Rattle.std.proofs.Math.Bool.{true}
-use Rattle.std.proofs.Common.{add_one}
+use Rattle.std.proofs.Common.{add-one}
 use native.Mathlib.Omega.{arith}
 use Rattle.std.specs.Int.Bits.{bit_or}
 use borrow.Author.Tests.{lt-ltb, eq-eqb}
@@ -47,4 +47,4 @@ module _ (b : List ℕ) (n m i : ℕ) (e : m ≡ size b) (firsts seen : ℕ) (in
       let fs = or_of firsts f in
       let cs = or_of seen (forbidden_in kind c) in
       let t : allowed_at n b i ≡ true = rw (← e, ← p, ← q, ← r, ← w) (plain-allowed n (m - (i + 1)) f s c (omega arith) kind k l (omega arith)) in
-      rw (add_one, inv (omega arith) (omega arith), t)
+      rw (add-one, inv (omega arith) (omega arith), t)

@@ -1,5 +1,7 @@
 // A quick test of a body's operations, for bodies of plain kinds alone. It is sound and no more: what does not pass is for `operation_columns` to
 // decide.
+#![tactic(auto)]
+
 ghost use Rattle.std.specs.Prelude.{◌≡◌, ◌≤◌, length};
 ghost use Rattle.operation.specs.Body.{body_length, size, allowed_at, each};
 ghost use Rattle.operation.specs.Columns.{most_operations};

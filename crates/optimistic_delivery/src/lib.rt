@@ -1,4 +1,6 @@
 // Optimistic delivery: the refusals, and a transaction appended to the pending ones.
+#![tactic(auto)]
+
 ghost use Rattle.std.specs.Prelude.{◌≡◌, true};
 ghost use Rattle.model.specs.Calls.{optimistic};
 ghost use Rattle.model.specs.Answers.{reply};

@@ -1,4 +1,6 @@
 // Pending transactions in the two lent areas: where a key stands, and its body.
+#![tactic(auto)]
+
 ghost use Rattle.std.specs.Prelude.{◌≡◌, true, ◌<◌};
 ghost use Rattle.model.specs.Calls.{clients, find as find-call};
 ghost use Rattle.model.specs.Answers.{finding};

@@ -1,5 +1,7 @@
 // One replica of the standard kind ("cabinet unit") over the two areas that the caller lends: the public calls. Each makes the shape check and hands
 // its answer on to the call at any limits.
+#![tactic(auto)]
+
 ghost use Rattle.std.specs.Prelude.{◌≡◌};
 ghost use Rattle.layout.specs.Fit.{fit};
 ghost use Rattle.model.specs.Calls.{by_values, opening, optimistic, open_reader, read as read-call, close_reader};

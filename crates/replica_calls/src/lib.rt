@@ -1,5 +1,7 @@
 // The calls at any limits, over the two areas that the caller lends: each is refused with 1 where the areas fail the shape check, and else works in
 // place. A kind of replica (`replica`; the limits are its own) is a set of wrappers over these.
+#![tactic(auto)]
+
 ghost use Rattle.std.specs.Prelude.{◌≡◌};
 ghost use Rattle.model.specs.Calls.{by_values, opening, optimistic, open_reader, read as read-call, close_reader};
 ghost use Rattle.model.specs.Calls.{find as find-call, execute as execute-call, final};

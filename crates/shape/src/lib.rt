@@ -1,5 +1,7 @@
 // The shape check of document 01 on the two lent areas, in one pass: equal to the definition on bytes of any contents and any length.
 // One row is `shape_row`'s, header and objects are `shape_objects`'s.
+#![tactic(auto)]
+
 ghost use Rattle.std.specs.Prelude.{◌≡◌, true, ◌&&◌, ◌||◌, ◌*◌, ◌≤◌, ◌<◌, eqb, length};
 ghost use Rattle.cells.specs.Cells.{cells};
 ghost use Rattle.layout.specs.Offsets.{Sane, bodies_length};

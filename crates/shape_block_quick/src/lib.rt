@@ -3,6 +3,8 @@
 //
 // Why it is quick: the number of versions is a literal at each call, so that the versions and the cells behind them are straight code; the oldest
 // version is held by the earliest open reader or by none; and in between an index goes down the sorted readers as the versions get older.
+#![tactic(auto)]
+
 ghost use Rattle.std.specs.Prelude.{◌≡◌, ◌&&◌, List, [], ℕ, ◌+◌, ◌*◌, ◌-◌, ◌≤◌, ltb, leb, length, get_or};
 ghost use Rattle.cells.specs.Cells.{cells};
 ghost use Rattle.versions.specs.Block.{width, block_ok};

@@ -2,6 +2,8 @@
 //
 // Why it is quick: the newest version is asked by two comparisons, which shows the order of the bounds too; that an older value is inside is then one
 // comparison of differences modulo 2^64.
+#![tactic(auto)]
+
 ghost use Rattle.std.specs.Prelude.{◌≡◌, ◌+◌, ◌*◌, ◌≤◌, true, length, slice_index};
 ghost use Rattle.cells.specs.Cells.{cells};
 ghost use Rattle.execution.specs.Bounds.{ordered};

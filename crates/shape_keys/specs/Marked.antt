@@ -1,6 +1,6 @@
 -- The loop over the keys: what holds before each turn, a turn, its ends. Assumes nothing.
 use Rattle.std.specs.Prelude.{◌≡◌, refl, Bool, false, cond, List, ℕ, suc, ◌+◌, ◌*◌, ◌≤◌, ◌<◌, eqb, length, get_or, set}
-use Rattle.std.proofs.Common.{sym, ap, ◌∙◌, ⊎_elim, eq-or-lt_of_le, mul-le-mul_right, add_one, arith, get_or-set_same, get_or-set_other, eqb-true}
+use Rattle.std.proofs.Common.{sym, ap, ◌∙◌, ⊎_elim, eq-or-lt_of_le, mul-le-mul_right, add-one, arith, get_or-set_same, get_or-set_other, eqb-true}
 use Rattle.std.proofs.Math.Bool.{true}
 use Rattle.std.proofs.Math.ListN.{length-set}
 use Rattle.std.proofs.lemmas.Bool.{eqb-false}
@@ -69,7 +69,7 @@ module _ (w count : ℕ) (cs : List ℕ) (wide : 0 < w) (marks : List Bool) (at 
       few = omega arith;
       place = omega (arith, r.place);
       room = length-set marks m true ∙ r.room;
-      different = rw (add_one, r.different) (sym told ∙ f);
+      different = rw (add-one, r.different) (sym told ∙ f);
       each_set = set-still;
     }
 

@@ -1,5 +1,7 @@
 // Whether blocks of one width begin with different keys, by marks: a key whose mark is clear is new, and only for another are the earlier keys asked
 // one by one. So many keys cost few comparisons, where comparing each with each would cost half their square.
+#![tactic(auto)]
+
 ghost use Rattle.std.specs.Prelude.{◌≡◌, true, cond, ◌*◌, ◌≤◌, ◌<◌, length};
 ghost use Rattle.cells.specs.Cells.{cells};
 ghost use Rattle.layout.specs.Rows.{chunks};

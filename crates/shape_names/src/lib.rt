@@ -1,5 +1,7 @@
 // The objects that a read set or a write set names (document 01, "Shape check": "name different objects below n"). Entries stand one behind another, two
 // cells each, the object first.
+#![tactic(auto)]
+
 ghost use Rattle.std.specs.Prelude.{◌≡◌, ◌+◌, ◌*◌, ◌≤◌, ◌<◌, length, drop};
 ghost use Rattle.cells.specs.Cells.{cells};
 ghost use Rattle.layout.specs.Rows.{chunks};

@@ -1,5 +1,7 @@
 // The shape check of the header and the objects (document 01, "Shape check"): timestamp, last numbers, readers, versions with bounds, and zeros behind
 // them.
+#![tactic(auto)]
+
 ghost use Rattle.std.specs.Prelude.{◌≡◌, ◌*◌, ◌≤◌, length, get_or};
 ghost use Rattle.cells.specs.Cells.{cells};
 ghost use Rattle.model.specs.Calls.{last_timestamp};

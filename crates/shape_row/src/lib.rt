@@ -1,5 +1,7 @@
 // The shape check of one row with the place of its body (document 01, "Shape check"): key, body, and the run's counter, outcome, read set and
 // write set, whose values lie inside their objects' bounds (document 02, S-1). It looks at the parts lent to it and knows nothing of the areas' layout.
+#![tactic(auto)]
+
 ghost use Rattle.std.specs.Prelude.{◌≡◌, ◌||◌, ◌+◌, ◌*◌, ◌^◌, ◌≤◌, ◌<◌, eqb, length, drop};
 ghost use Rattle.cells.specs.Cells.{cells};
 ghost use Rattle.cells.specs.Zeros.{zeros};

@@ -2,6 +2,8 @@
 //
 // Three forms: `objects_alone` where no reader is open, `shape_versions_quick` beside open readers, and `objects_general`, which asks the readers version
 // by version, for what the quick test does not pass: a damaged area, or versions and readers in numbers that it has no arm for.
+#![tactic(auto)]
+
 ghost use Rattle.std.specs.Prelude.{◌≡◌, [], ◌+◌, ◌*◌, ◌-◌, ◌≤◌, ◌<◌, ◌^◌, length};
 ghost use Rattle.cells.specs.Cells.{cells};
 ghost use Rattle.versions.specs.Block.{object_cells, block_ok, object_ok, blocks_ok, lower, lowest, chained, Lent, LentBlocks};

@@ -1,5 +1,7 @@
 // The command program: a call a line on standard input, an answer a line on standard output.
 // It holds one replica in its own arrays, which are lent to each call.
+#![tactic(auto)]
+
 mod areas;
 mod calls;
 mod commands;

@@ -1,5 +1,7 @@
 // The readers' calls on a lent record area that passed the shape check: a reader ("snapshot") takes the current timestamp when it is opened,
 // reads each object as of that timestamp, and is closed, whereupon the versions that it alone held go.
+#![tactic(auto)]
+
 ghost use Rattle.model.specs.Answers.{reply, reading};
 ghost use Rattle.model.specs.Calls.{open_reader, read as read-call, close_reader};
 ghost use Rattle.layout.specs.Contract.{Supported, HoldsShaped, MetBeside};

@@ -1,7 +1,7 @@
 -- The pending transactions one after another, as the loop goes: what holds before each turn, and what a turn makes of it. Assumes nothing.
 use Rattle.std.specs.Prelude.{◌≡◌, refl, ◌⊎◌, Bool, true, false, cond, ℕ, zero, suc, ◌+◌, ◌-◌, ◌*◌, ◌^◌, ◌≤◌, ◌<◌, ℤ, length, drop, get_or, set}
 use Rattle.std.proofs.Math.Path.{sym, ap, subst}
-use Rattle.std.proofs.Common.{ap₂, ◌∙◌, inl, inr, true≢false, arith, add_one, take-suc, drop-cons, le-ltb}
+use Rattle.std.proofs.Common.{ap₂, ◌∙◌, inl, inr, true≢false, arith, add-one, take-suc, drop-cons, le-ltb}
 use Rattle.std.proofs.Math.Option.{none}
 use mathlib.Core.List.{List, [], ◌∷◌, ◌++◌}
 use Rattle.std.proofs.Math.ListN.{take, drop_of_length-le}
@@ -332,7 +332,7 @@ module _ {l : Limits} (s : Sane l) (few : l.operations ≤ capacity) {u : Replic
             let t : finished w ≡ true = sym ends ∙ f in
             let T : committed_with u ws ≡ over w.run.writes S = lv.table ∙ ap₂ (λ (x : Bool) (p : Run). cond x (over p.writes S) S) (sym lv.finished ∙ f) is in
             let less : left - a.used ≡ left - used S left j = ap (λ (x : ℕ). left - x) taken in
-            let one = add_one i in
+            let one = add-one i in
             let cnt : c - left + (a.used + work_count (committed_with u ws) (left - a.used) (drop (suc i) js)) ≡ all_counted u c =
             ap₂ (λ (R : Table) (x : ℕ). c - left + (a.used + work_count R x (drop (suc i) js))) T less
             ∙ sym (ap (λ (x : Bool). c - left + (a.used + cond x (work_count (over w.run.writes S) (left - used S left j) (drop (suc i) js)) 0)) t) ∙ counted-here in

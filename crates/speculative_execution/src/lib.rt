@@ -1,4 +1,6 @@
 // Work: operations of the first unfinished pending transaction, then of the next, in place on a replica's two areas.
+#![tactic(auto)]
+
 ghost use Rattle.std.specs.Prelude.{◌≡◌, true};
 ghost use Rattle.model.specs.Calls as calls;
 ghost use Rattle.model.specs.Answers.{execution};

@@ -1,5 +1,7 @@
 // One pending transaction's turn of work, on its row: a finished one lays its writes over the table of those behind it, any other's run is resumed.
 // The row and what stands beside the table's values are in one area: the row is loaded, run in local arrays while the area is only read, and stored.
+#![tactic(auto)]
+
 ghost use Rattle.std.specs.Prelude.{◌≡◌, false, ◌<◌, length};
 ghost use Rattle.operation.specs.Body.{operations};
 ghost use Rattle.execution.specs.Run.{ended};

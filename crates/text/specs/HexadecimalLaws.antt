@@ -1,6 +1,6 @@
 -- How digits are read and written pair by pair. Assumes nothing.
 use Rattle.std.specs.Prelude.{◌≡◌, ℕ, suc, ◌+◌, ◌*◌, ◌/◌, ◌%◌, ◌<◌, ◌≤◌, true, false, ◌&&◌, List, [], ◌∷◌, ◌++◌, length, take, drop, nat_lt, slice_index, slice_set, refl}
-use Rattle.std.proofs.Common.{sym, ◌∙◌, append_assoc, append-nil, add_one, length-append, length-set, drop-cons, take-suc, take-suc-set, length-take-le}
+use Rattle.std.proofs.Common.{sym, ◌∙◌, append_assoc, append-nil, add-one, length-append, length-set, drop-cons, take-suc, take-suc-set, length-take-le}
 use Rattle.std.proofs.Math.Bool.{and-false}
 use native.Mathlib.Omega.{arith}
 use Rattle.std.proofs.Math.ListN.{drop_of_length-le}
@@ -59,7 +59,7 @@ module _ (w before out : List ℕ) (i n : ℕ) (r : Reading w before out i n) wh
           same_size = length-set out n (high * 16 + low) ∙ r.same_size;
           room = omega (arith, r.same_size);
           tested = pairs-here ∙ rw (lt-ltb high 16 (omega arith), lt-ltb low 16 (omega arith));
-          read = bytes-here ∙ rw (add_one, take-suc-set out n (high * 16 + low) t, append_assoc);
+          read = bytes-here ∙ rw (add-one, take-suc-set out n (high * 16 + low) t, append_assoc);
         }
 
   pub odd : length w ≤ i + 1 → i < length w → Parsed w before out Malformed
@@ -95,5 +95,5 @@ pub spelled-more : (l out : List ℕ) (i a b : ℕ) → i < length l → length 
 unfolding spelled
 spelled-more l out i a b h e t ea eb =
     let k : 2 * (i + 1) ≡ suc (2 * i + 1) = omega arith in
-    let s : spelled (take (i + 1) l) ≡ spelled (take i l) ++ (a ∷ b ∷ []) = rw (add_one, take-suc l i 0, spelled-append, ea, eb) in
-    rw (k, take-suc-set (slice_set out (2 * i) a) (2 * i + 1) b (simp length-set (omega arith)), add_one (2 * i), take-suc-set out (2 * i) a (omega arith), t, append_assoc) (sym s)
+    let s : spelled (take (i + 1) l) ≡ spelled (take i l) ++ (a ∷ b ∷ []) = rw (add-one, take-suc l i 0, spelled-append, ea, eb) in
+    rw (k, take-suc-set (slice_set out (2 * i) a) (2 * i + 1) b (simp length-set (omega arith)), add-one (2 * i), take-suc-set out (2 * i) a (omega arith), t, append_assoc) (sym s)

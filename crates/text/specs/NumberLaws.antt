@@ -1,7 +1,7 @@
 -- How the digits of a number are read one by one. Assumes nothing.
 use Rattle.std.specs.Prelude.{◌≡◌, ℕ, zero, suc, ◌+◌, ◌-◌, ◌*◌, ◌%◌, ◌^◌, ◌<◌, ◌≤◌, Bool, true, false, ◌&&◌, List, [], ◌∷◌, length, drop, ℤ, pos, negsuc, neg_ℤ, FitsSigned, int_lt, nat_le, slice_index, unsigned_abs, refl}
 use Rattle.std.proofs.Math.Bool.{and-false}
-use Rattle.std.proofs.Common.{add_one, arith, drop_of_length-le, drop-cons, lt-ltb, le-ltb, le-leb, leb-true, ltb-true, to_z, of_z, to_z-of_z}
+use Rattle.std.proofs.Common.{add-one, arith, drop_of_length-le, drop-cons, lt-ltb, le-ltb, le-leb, leb-true, ltb-true, to_z, of_z, to_z-of_z}
 use Rattle.std.proofs.lemmas.Bool.{lt-leb}
 use Rattle.std.specs.Int.{w64}
 use mir.ValLaws.{to_z-neg}
@@ -83,7 +83,7 @@ module _ (most n b : ℕ) (w : List ℕ) where
 -- at index i of a word, where the byte says d
 module _ (most n i d : ℕ) (w : List ℕ) (h : i < length w) (e : d ≡ digit_of (slice_index w i)) where
   split : drop i w ≡ slice_index w i ∷ drop (i + 1) w
-  split = rw (add_one, drop-cons w i 0)
+  split = rw (add-one, drop-cons w i 0)
 
   pub stops : 9 < d → Malformed ≡ read_on most n (drop i w)
   stops s = rw split (stop most n (slice_index w i) (drop (i + 1) w) (omega arith))

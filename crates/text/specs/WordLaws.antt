@@ -3,7 +3,7 @@ use Rattle.std.specs.Prelude.{◌≡◌, ℕ, suc, ◌+◌, ◌-◌, ◌<◌, �
 use Rattle.std.proofs.Math.Path.{sym}
 use Rattle.std.proofs.Common.{ap, ◌∙◌, inl, inr, add-zero, zero-add, drop_of_length-le, drop-drop}
 use Rattle.std.specs.Bool.{beq}
-use Rattle.std.proofs.Math.Numerals.{add_one}
+use Rattle.std.proofs.Math.Numerals.{add-one}
 use native.Mathlib.Omega.{arith}
 use Rattle.std.proofs.Math.Seq.{drop-length, drop-cons}
 use borrow.Author.Count.{below_more}
@@ -15,7 +15,7 @@ use Rattle.text.specs.LineWords.{is_blank, run, first_word, rest, bytes, Next, w
 module _ (blank : Bool) (i : ℕ) (l : List ℕ) (h : i < length l) (b : Bool) (e : b ≡ is_blank (slice_index l i)) where
   here : run blank (drop i l) ≡ cond (beq b blank) (suc (run blank (drop (i + 1) l))) 0
   unfolding run
-  here = rw (e, add_one, drop-cons l i 0)
+  here = rw (e, add-one, drop-cons l i 0)
 
   pub stops : not (beq b blank) ≡ true → run blank (drop i l) ≡ 0
   stops t = here ∙ rw (not-true (beq b blank) t)

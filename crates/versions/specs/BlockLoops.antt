@@ -6,7 +6,7 @@ use Rattle.std.proofs.Math.Bool.{and-true, and-false}
 use mathlib.Core.List.{List, [], ◌∷◌}
 use Prim.Native.Nat.{ℕ, zero, suc, ◌+◌, ◌*◌, ◌-◌, ◌≤◌, ◌<◌}
 use native.Mathlib.Omega.{arith}
-use Rattle.std.proofs.Math.Numerals.{add_one}
+use Rattle.std.proofs.Math.Numerals.{add-one}
 use Rattle.std.proofs.Math.Seq.{drop-drop, slice}
 use borrow.Author.Tests.{lt-ltb, le-ltb, le-leb, lt-leb, leb-false}
 use Rattle.cells.specs.Cells.{cells}
@@ -137,14 +137,14 @@ module _ (n timestamp : ℕ) (rc : List ℕ) (xs : List ℕ) (ex : length xs ≡
 
       pub ok-chain : t ≡ true → f ≤ timestamp → (low : ℕ) → low ≡ lowest (timestamp + 1) rc → block_ok n timestamp rc (cells xs) ≡ chained rc low k (cells xs)
       unfolding block_ok
-      ok-chain h l low w = rw (rules, frame, h, le-leb f timestamp l, w, add_one, gf)
+      ok-chain h l low w = rw (rules, frame, h, le-leb f timestamp l, w, add-one, gf)
 
     -- one version: it is not above the timestamp and serves every open reader exactly if it is below low
     module _ (o : k ≡ 1) (low : ℕ) (w : low ≡ lowest (timestamp + 1) rc) where
       single : versions_shaped timestamp (stamps rc) (block_versions (cells xs)) ≡ ltb f low
       single =
           let z : k - 1 ≤ 0 = omega arith in
-          rules ∙ ap (leb f timestamp &&◌) (chain-end rc (lowest (suc timestamp) rc) f (k - 1) (drop 3 (cells xs)) z) ∙ go' (leb f timestamp) refl ∙ rw (w, add_one)
+          rules ∙ ap (leb f timestamp &&◌) (chain-end rc (lowest (suc timestamp) rc) f (k - 1) (drop 3 (cells xs)) z) ∙ go' (leb f timestamp) refl ∙ rw (w, add-one)
         where
           go' : (b : Bool) → leb f timestamp ≡ b → b && ltb f (lowest (suc timestamp) rc) ≡ ltb f (lowest (suc timestamp) rc)
           go' true e = refl

@@ -1,6 +1,8 @@
 // One object's versions in a block of cells: a count, then stamp and value of each version, the newest first; unused cells are 0. Behind an object's
 // block stand its lower and its upper bound.
 // A reader's cell is 0 where it is closed, else its stamp + 1: snapshots are the cells of all readers.
+#![tactic(auto)]
+
 ghost use Rattle.std.specs.Prelude.{◌≡◌, ◌&&◌, ◌*◌, ◌^◌, ◌<◌, ltb, leb, length};
 ghost use Rattle.cells.specs.Cells.{cells};
 ghost use Rattle.model.specs.Replica.{as_of};

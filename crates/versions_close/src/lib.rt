@@ -2,6 +2,8 @@
 // newest that is not above its stamp, if it is not the newest of all and no other reader sees it. Blocks and objects are those of `versions`.
 //
 // c is the closed reader's cell, p the greatest of the other cells that is not above c, 0 where there is none, q the least above c.
+#![tactic(auto)]
+
 ghost use Rattle.std.specs.Prelude.{◌≡◌, ◌&&◌, ◌||◌, ℕ, ◌*◌, ◌≤◌, ◌<◌, ◌^◌, ltb, leb, length, get_or, drop};
 ghost use Rattle.cells.specs.Cells.{cells, uncells};
 ghost use Rattle.versions.specs.Block.{width, between, LentBlocks};

@@ -1,6 +1,6 @@
 -- A turn of the loop that keeps the versions that are held. Assumes nothing.
 use Rattle.std.specs.Prelude.{◌≡◌, refl, Bool, true, false, cond, List, [], ◌∷◌, ◌++◌, ℕ, zero, suc, ◌+◌, ◌-◌, ◌≤◌, ◌<◌, length, get_or, take, drop, set}
-use Rattle.std.proofs.Common.{sym, ap, ◌∙◌, append_assoc, arith, add_one, length-set, length-append, drop-drop, get_or-drop, drop-set-lt, take-suc-set, length-take-le}
+use Rattle.std.proofs.Common.{sym, ap, ◌∙◌, append_assoc, arith, add-one, length-set, length-append, drop-drop, get_or-drop, drop-set-lt, take-suc-set, length-take-le}
 use Rattle.versions.specs.Block.{between}
 use Rattle.versions_push.specs.Trimmed.{trim_cells, fronted}
 
@@ -24,7 +24,7 @@ module _ (bs : List ℕ) (j s v : ℕ) (h : j + 2 ≤ length bs) where
   pair-front =
       let e : j + 2 ≡ suc (j + 1) = omega arith in
       let l : j + 1 < length (set bs j s) = rw length-set (omega arith) in
-      rw (e, take-suc-set (set bs j s) (j + 1) v l, add_one, take-suc-set bs j s (omega arith), append_assoc (take j bs) (s ∷ []) (v ∷ []))
+      rw (e, take-suc-set (set bs j s) (j + 1) v l, add-one, take-suc-set bs j s (omega arith), append_assoc (take j bs) (s ∷ []) (v ∷ []))
 
   pair-behind : (i : ℕ) → j + 2 ≤ i → drop i (set (set bs j s) (j + 1) v) ≡ drop i bs
   pair-behind i l = drop-set-lt i (set bs j s) (j + 1) v (omega arith) ∙ drop-set-lt i bs j s (omega arith)

@@ -1,5 +1,7 @@
 // A new version in an object's block, and the versions that no open reader holds any more out of it. Blocks are those of `versions`; what a
 // reader's close takes out is `versions_close`'s.
+#![tactic(auto)]
+
 ghost use Rattle.std.specs.Prelude.{◌+◌, ◌*◌, ◌≤◌, ◌≡◌, length};
 ghost use Rattle.cells.specs.Cells.{cells};
 ghost use Rattle.versions_push.specs.Trimmed.{Room, Pair, Trimmed, Pushable, rebuilt_block, pushed_block};

@@ -1,4 +1,6 @@
 // A 64-bit word as eight bytes, the lowest first. On x86-64 `load` and `put_word` are one `mov` each.
+#![tactic(auto)]
+
 ghost use Rattle.std.specs.Prelude.{◌≡◌, ◌+◌, ◌<◌, ◌≤◌, ◌%◌, length};
 ghost use Rattle.words.specs.Words.{bytes, loaded};
 

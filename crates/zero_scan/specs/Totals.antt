@@ -4,7 +4,7 @@ use Rattle.std.specs.Prelude.{ℕ, zero, suc, ◌+◌, ◌*◌, ◌≤◌, ◌<�
 use Rattle.std.proofs.Math.Path.{refl}
 use Rattle.std.proofs.Common.{sym, ap, ◌∙◌, eqb-true, eq-eqb, ne_eqb}
 use native.Mathlib.Omega.{arith}
-use Rattle.std.proofs.Math.Numerals.{add_one}
+use Rattle.std.proofs.Math.Numerals.{add-one}
 use Rattle.std.specs.Int.Bits.{bit_or, or_add_and}
 use Rattle.std.proofs.lemmas.Nat.{and_le_l, and_le_r}
 use Rattle.std.proofs.Math.Dec.{eqb-suc-zero}
@@ -73,7 +73,7 @@ module _ (xs : List ℕ) (to : ℕ) (l : to ≤ length xs) where
 
   pub total-next : (i j : ℕ) → j ≡ i + 1 → i < to → total (slice i to xs) ≡ get_or xs i 0 + total (slice j to xs)
   unfolding total
-  total-next i j e h = rw (e, add_one, slice-cons i to xs 0 h l)
+  total-next i j e h = rw (e, add-one, slice-cons i to xs 0 h l)
 
   pub passed-word : (i j : ℕ) → j ≡ i + 8 → j ≤ to → Passed (total (slice i to xs)) (loaded xs i) (total (slice j to xs))
   passed-word i j q h =

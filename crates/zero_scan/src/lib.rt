@@ -1,6 +1,8 @@
 // Whether many bytes are all 0. An OR of all of them, with no early exit, which would keep the scan from using vectors.
 //
 // Machine code on x86-64, seen by `objdump -d` of the linked benchmark: all_zero takes 64 bytes a turn, four 16-byte loads and four ORs.
+#![tactic(auto)]
+
 ghost use Rattle.std.specs.Prelude.{◌≡◌, ◌+◌, ◌≤◌, length};
 ghost use Rattle.std.proofs.Math.Seq.{slice};
 ghost use Rattle.cells.specs.Zeros.{zeros};

@@ -4,7 +4,7 @@ use Prim.Native.Nat.{ℕ, ◌≤◌, ◌-◌}
 use mathlib.Core.Path.{◌≡◌, refl, sym, ◌∙◌}
 use mathlib.Core.Bool.{Bool, true}
 use mathlib.Core.List.{List}
-use native.Mathlib.Numerals.{add_one}
+use native.Mathlib.Numerals.{add-one}
 use native.Mathlib.Omega.{arith}
 use borrow.Author.Tests.{not-true, not-false}
 use Rattle.operation.specs.Body.{allowed_at, each}
@@ -140,7 +140,7 @@ loop-less c = omega arith
 
 loop-again : tie.Need-loop-preserved invariant-loop decreases-loop
 unfolding each tested
-loop-again c = (omega arith, rw (add_one, c.before.before.before.before.before.before.before.before.before.before.loop.invariant.1) (tests c.before ∙ not-false _ c.if2.false))
+loop-again c = (omega arith, rw (add-one, c.before.before.before.before.before.before.before.before.before.before.loop.invariant.1) (tests c.before ∙ not-false _ c.if2.false))
 
 returns-3 : tie.Need-returns-3 invariant-loop decreases-loop
 returns-3 c =
