@@ -99,7 +99,7 @@ below-range (negsuc n) h = le-ltb n (2 ^ 63) (omega arith)
 
 -- a number in the range is read back from its bits
 pub read_back : {z : ℤ} → mag z < 2 ^ 63 → to_z w64 (of_z w64 z) ≡ z
-read_back h = to_z-of_z (record { sfits = h })
+read_back h = to_z-of_z {w = w64} (record { sfits = h })
 
 pub same_bits : {y z : ℤ} → mag y < 2 ^ 63 → mag z < 2 ^ 63 → of_z w64 y ≡ of_z w64 z → y ≡ z
 same_bits h k e = sym (read_back h) ∙ ap (to_z w64) e ∙ read_back k
