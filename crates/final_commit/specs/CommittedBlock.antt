@@ -1,6 +1,6 @@
 -- An object's block that a commit rewrites. Assumes nothing.
 use Rattle.std.specs.Prelude.{◌≡◌, true, List, ℕ, suc, ◌^◌, ◌≤◌, ◌<◌, ℤ, length}
-use Rattle.std.proofs.Common.{ap, ◌∙◌, arith}
+use Rattle.std.proofs.Common.{sym, ap, ◌∙◌, subst, arith}
 use Rattle.std.proofs.Math.Option.{Option, some}
 use Rattle.cells.specs.Cells.{cells, uncells}
 use Rattle.cells.specs.CellLaws.{cells-uncells}
@@ -20,7 +20,8 @@ use Rattle.versions.specs.Round.{below-block, ok-block, parsed}
 pub pushed-fits : (n s t : ℕ) (rs : List (Option ℕ)) (vs : List Version) (v : ℤ) → length rs ≡ n → t ≡ suc s → Word t → ValueFits v → VersionsShape s (opens rs) vs → ObjectFits n vs → ObjectFits n (prune (opens rs) (pushed t vs (some v)))
 unfolding prune
 pushed-fits n s t rs vs v m e w x h g =
-    let k : length (prune (opens rs) (pushed t vs (some v))) ≤ suc (length (opens rs)) = rw e (few (suc s) (opens rs) (prune (opens rs) (pushed (suc s) vs (some v))) (commit-shape s (opens rs) vs (some v) h)) in
+    let few_then : length (prune (opens rs) (pushed (suc s) vs (some v))) ≤ suc (length (opens rs)) = few (suc s) (opens rs) (prune (opens rs) (pushed (suc s) vs (some v))) (commit-shape s (opens rs) vs (some v) h) in
+    let k : length (prune (opens rs) (pushed t vs (some v))) ≤ suc (length (opens rs)) = subst (λ (x : ℕ). length (prune (opens rs) (pushed x vs (some v))) ≤ suc (length (opens rs))) (sym e) few_then in
     (omega (arith, k, opens-few rs), all_keep VersionFits (held (opens rs) (pushed t vs (some v))) (pushed t vs (some v)) ((w, x), g.1))
 
 -- a lent block that holds these versions

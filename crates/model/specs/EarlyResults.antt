@@ -30,7 +30,7 @@ Ordered (j ∷ js) = ((finished j ≡ true) ⊎ NotBegun js) × Ordered js
 not-begun_chain : (S : Table) (js : List Pending) → NotBegun js → Chain S js
 unfolding steps
 not-begun_chain S [] f = tt
-not-begun_chain S (j ∷ js) f = ((0, f.0), not-begun_chain _ js f.1)
+not-begun_chain S (j ∷ js) f = ((0, f.0), not-begun_chain (over j.run.writes S) js f.1)
 
 not-begun_ordered : (js : List Pending) → NotBegun js → Ordered js
 not-begun_ordered [] f = tt
@@ -63,7 +63,7 @@ ordered-append (i ∷ js) j h e = (go' h.0, ordered-append js j h.1 e)
 pub chain-append : (S : Table) (js : List Pending) (j : Pending) → Chain S js → j.run ≡ start → Chain S (js ++ (j ∷ []))
 unfolding steps
 chain-append S [] j h e = ((0, e), tt)
-chain-append S (i ∷ js) j h e = (h.0, chain-append _ js j h.1 e)
+chain-append S (i ∷ js) j h e = (h.0, chain-append (over i.run.writes S) js j h.1 e)
 
 -- ---- a commit's walk
 
