@@ -1,3 +1,2 @@
 -- What the proofs of `arith` share.
 pub mod Sums
-pub mod Sides

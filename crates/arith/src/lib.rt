@@ -71,6 +71,7 @@ fn on_side(x: i64, q: u64) -> i64
 
 // Whether the quotient q with the remainder r is rounded up: past a half it is, and at an exact half where q is odd, so that the even
 // neighbour is taken. The rule for a half stands in this function alone. No branch: halves and their parity follow no pattern.
+#[tactic(auto, unfolding(crate::specs::Integer::rounds_up))]
 fn rounds_up(q: u64, r: u64, d: u64) -> bool
     requires { (r < d) × (d ≤ 2 ^ 63) }
     ensures { result ≡ rounds_up q r d }
