@@ -5,4 +5,4 @@ pub mod buffer;
 pub mod hexadecimal;
 pub mod numbers;
 pub mod numerals;
-pub mod words;
+pub mod line_words;

@@ -10,6 +10,7 @@ pub struct Word {
 }
 
 // Spaces and tabs stand between words.
+#[tactic(auto, unfolding(crate::specs::LineWords::is_blank))]
 fn is_blank(byte: u8) -> bool
     ensures { result ≡ is_blank byte }
 {
@@ -61,7 +62,7 @@ pub fn place(line: &[u8], word: &[u8]) -> usize
         if from == to {
             return k;
         }
-        if check::same(&line[from..to], word) {
+        if &line[from..to] == word {
             return k;
         }
         at = to;
