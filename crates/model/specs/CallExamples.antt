@@ -10,7 +10,7 @@ use Rattle.execution.specs.Bounds.{Bounds, widest}
 use Rattle.execution.specs.Run.{start}
 use Rattle.model.specs.declared.Limits.{Limits}
 use Rattle.model.specs.Calls.{Opening, by_values, plain, Call, opening, optimistic, execute, final, open_reader, read, close_reader, find, show_body, dry_run}
-use Rattle.model.specs.Calls.{Answer, refused, done, executed, committed, found, value, numbers, Transaction, Facts, refusal}
+use Rattle.model.specs.Calls.{Answer, refused, done, executed, committed, found, numbers, Transaction, Facts, refusal}
 use Rattle.model.specs.Start.{Version, start_of}
 use Rattle.model.specs.Serial as serial
 use Rattle.model.specs.Replica.{Pending, Replica, newest, facts, opened, call, calls}

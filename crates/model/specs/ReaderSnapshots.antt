@@ -15,7 +15,7 @@ use Rattle.model.specs.Interface.{optimistic, execute, final, open_reader, close
 use Rattle.model.specs.Calls.{version, Facts, causes, refusal, judged}
 use Rattle.model.specs.Start.{Version, no_version, Start}
 use Rattle.model.specs.Serial.{is_some}
-use Rattle.model.specs.Replica.{Replica, newest, as_of, view, opens, prune, committed_table, keyed, result, facts, commit, opened, perform, call, calls}
+use Rattle.model.specs.Replica.{Replica, newest, as_of, opens, prune, committed_table, keyed, result, facts, commit, opened, perform, call, calls}
 use Rattle.model.specs.ListLaws.{or_right, map-all, map_map-same, all-implies}
 use Rattle.model.specs.VersionLaws.{Dated, as_of-prune, as_of-now, as_of-install}
 use Rattle.model.specs.Refusals.{accepted, opening-judged}

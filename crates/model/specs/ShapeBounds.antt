@@ -1,16 +1,16 @@
 -- The shape's part on bounds, and that every call keeps it: versions and recorded stores stay inside. Assumes nothing.
-use Rattle.std.specs.Prelude.{◌≡◌, refl, Bool, true, false, cond, List, [], ◌∷◌, map, ℕ, zero, suc, ◌-◌, ℤ, eqb, length, get_or}
+use Rattle.std.specs.Prelude.{◌≡◌, refl, Bool, true, false, cond, List, [], ◌∷◌, map, ℕ, suc, ◌-◌, ℤ, eqb, length, get_or}
 use Rattle.std.proofs.Math.Option.{Option, none, some, none-ne-some, some-injective}
 use Rattle.std.proofs.Common.{arith, eqb-true}
 use Rattle.execution.specs.Entries.{Entry, lookup}
 use Rattle.execution.specs.Bounds.{Bounds, no_bounds, ordered, inside}
-use Rattle.execution.specs.Run.{Table, Run, start, whole, matches, over}
+use Rattle.execution.specs.Run.{Table, start, whole, matches, over}
 use Rattle.execution.specs.ReadAgreement.{both}
 use Rattle.execution.specs.RunShape.{every, AllInside, steps-inside}
 use Rattle.model.specs.Lists.{all, all₂, mapi}
 use Rattle.model.specs.Start.{Version}
 use Rattle.model.specs.Calls.{starts_inside}
-use Rattle.model.specs.Replica.{Pending, Replica, held, prune, pushed, install, program, finished, advance, used, worked, restarted, walk, validated, result}
+use Rattle.model.specs.Replica.{Pending, held, prune, pushed, install, program, finished, advance, used, worked, restarted, walk, validated, result}
 use Rattle.model.specs.ListLaws.{All}
 use Rattle.model.specs.Tests.{all-keeps}
 use Rattle.model.specs.Shape.{versions_inside, bounds_fit}

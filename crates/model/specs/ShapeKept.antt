@@ -11,7 +11,7 @@ use Rattle.std.proofs.Math.Dec.{ltb}
 use Rattle.std.proofs.Math.ListN.{length-map, length-set, length-append, length-replicate}
 use borrow.Author.Tests.{eq-eqb, leb-false, le-leb, lt-ltb, not-false}
 use Rattle.arith.specs.Integer.{fits}
-use Rattle.operation.specs.Body.{size, operations, is_well_formed}
+use Rattle.operation.specs.Body.{is_well_formed}
 use Rattle.execution.specs.Entries.{Entry}
 use Rattle.execution.specs.Bounds.{widest}
 use Rattle.execution.specs.Run.{Table, start}

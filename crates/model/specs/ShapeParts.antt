@@ -8,7 +8,7 @@ use Rattle.std.proofs.Math.Option.{Option, none, some, none-ne-some, some-inject
 use mathlib.Core.List.{List, [], ◌∷◌, ◌++◌, map}
 use Rattle.std.proofs.lemmas.List.{length-map}
 use Rattle.arith.specs.Integer.{fits}
-use Rattle.operation.specs.Body.{operations, is_well_formed}
+use Rattle.operation.specs.Body.{is_well_formed}
 use Rattle.operation.specs.BodyLaws.{valid_drop}
 use Rattle.execution.specs.Entries.{Entry, lookup}
 use Rattle.execution.specs.Bounds.{Bounds}
