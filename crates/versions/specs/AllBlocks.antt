@@ -1,6 +1,6 @@
 -- All objects, one after another: the check is the model's rules on what their cells say. Assumes nothing.
 use Rattle.std.specs.Prelude.{◌≡◌, refl, Bool, true, false, ◌&&◌, List, [], ◌∷◌, map, ℕ}
-use Rattle.execution.specs.Bounds.{Bounds, ordered}
+use Rattle.execution.specs.Bounds.{ordered}
 use Rattle.model.specs.Lists.{all, all₂}
 use Rattle.model.specs.Shape.{versions_inside}
 use Rattle.model.specs.ShapeCheck.{versions_shaped}
