@@ -1,7 +1,7 @@
 // The arguments of a command, read from a line from an index on.
 use crate::faults::{Fault, List, Name};
 use text::numbers::{Integer, Number};
-use text::{numbers, words};
+use text::{line_words, numbers};
 
 // What was read, and the index behind it.
 #[derive(Drop)]
@@ -34,7 +34,7 @@ pub enum ValueList {
 
 // A number of 32 bits.
 pub fn number(line: &[u8], at: usize, name: Name) -> Single {
-    let w = words::next(line, at);
+    let w = line_words::next(line, at);
     let from = w.from;
     let to = w.to;
     match numbers::unsigned(&line[from..to], 4_294_967_295) {
@@ -47,7 +47,7 @@ pub fn number(line: &[u8], at: usize, name: Name) -> Single {
 pub fn last_number(line: &[u8], at: usize, name: Name) -> Single {
     match number(line, at, name) {
         Single::Is(n, behind) => {
-            if words::ended(line, behind) {
+            if line_words::ended(line, behind) {
                 Single::Is(n, behind)
             } else {
                 Single::Wrong(Fault::TooManyWords)
@@ -72,7 +72,7 @@ pub fn two_numbers(line: &[u8], at: usize, first: Name, second: Name) -> Pair {
 pub fn last_two_numbers(line: &[u8], at: usize, first: Name, second: Name) -> Pair {
     match two_numbers(line, at, first, second) {
         Pair::Are(a, b, behind) => {
-            if words::ended(line, behind) {
+            if line_words::ended(line, behind) {
                 Pair::Are(a, b, behind)
             } else {
                 Pair::Wrong(Fault::TooManyWords)
@@ -84,12 +84,12 @@ pub fn last_two_numbers(line: &[u8], at: usize, first: Name, second: Name) -> Pa
 
 // A byte's number that is the line's last word.
 pub fn last_byte(line: &[u8], at: usize) -> Octet {
-    let w = words::next(line, at);
+    let w = line_words::next(line, at);
     let from = w.from;
     let to = w.to;
     match numbers::unsigned(&line[from..to], 255) {
         Number::Value(n) => {
-            if words::ended(line, to) {
+            if line_words::ended(line, to) {
                 Octet::Is(n as u8)
             } else {
                 Octet::Wrong(Fault::TooManyWords)
@@ -102,8 +102,8 @@ pub fn last_byte(line: &[u8], at: usize) -> Octet {
 // Does a word end a list? The next list's name does; the last list has none behind it.
 fn ends(list: List, word: &[u8]) -> bool {
     match list {
-        List::Values => words::place(b"lower", word) == 0,
-        List::Lower => words::place(b"upper", word) == 0,
+        List::Values => line_words::place(b"lower", word) == 0,
+        List::Lower => line_words::place(b"upper", word) == 0,
         List::Upper => false,
     }
 }
@@ -114,7 +114,7 @@ pub fn values(line: &[u8], at: usize, list: List, out: &mut [i64]) -> ValueList 
     let mut next = at;
     let mut count = 0;
     while next < line.len() {
-        let w = words::next(line, next);
+        let w = line_words::next(line, next);
         let from = w.from;
         let to = w.to;
         if from == to {

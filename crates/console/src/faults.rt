@@ -16,7 +16,7 @@ pub enum Name {
 }
 
 // The lists of signed numbers that an opening takes.
-#[derive(Drop)]
+#[derive(Clone, Copy)]
 pub enum List {
     Values,
     Lower,

@@ -1,8 +1,9 @@
 // Standard input, by blocks.
-ghost use Rattle.std.specs.Prelude.{◌≡◌, length};
+ghost use Rattle.std.specs.Prelude.{◌≡◌, length, IfOk};
 ghost use Rattle.console.specs.Input.{Within};
 
-use libc::STDIN_FILENO;
+use std::io;
+use std::io::Read;
 
 // The bytes of the buffer from index from up to, not including, index end are read and not used yet.
 #[derive(Drop)]
@@ -26,18 +27,17 @@ impl Input {
 }
 
 // Moves the unused bytes to the buffer's start and reads once behind them. Nothing read: the input has ended.
-pub fn more(buffer: &mut [u8], input: Input) -> Input
+pub fn more<R: Read>(reader: &mut R, buffer: &mut [u8], input: Input) -> io::Result<Input>
     requires { Within input (length buffer.old) }
-    ensures { Within result (length buffer.new) }
+    ensures { IfOk result (λ i. Within i (length buffer.new)) }
 {
     let from = input.from;
     let unread = input.end - from;
     cells::move_down(buffer, 0, from, unread);
-    let got = libc::read(STDIN_FILENO, &mut buffer[unread..]);
-    let n = io::count(got, &buffer[unread..]);
-    Input {
+    let n = reader.read(&mut buffer[unread..])?;
+    Ok(Input {
         from: 0,
         end: unread + n,
         ended: n == 0,
-    }
+    })
 }

@@ -17,7 +17,7 @@ use Rattle.operation.specs.BodyLaws.{Valid}
 use Rattle.operation.specs.declared.Operation.{Operation}
 use Rattle.operation.specs.declared.Operation.TheVariants.{Load, Store, Set, Add, Subtract, Skip, Fail, Divide}
 use Rattle.execution.specs.Entries.{Entry, entry, lookup, update, append}
-use Rattle.execution.specs.Run.{Table, Stop, failed, overflowed, outside, outcome_of, Move, get, put, go, halt, register, sum, move, Run, start, known, or_else, recorded, got, put_in, stopped, apply, due, ended, obey, step, steps, over}
+use Rattle.execution.specs.Run.{Table, Stop, failed, overflowed, outside, outcome_of, Move, get, put, go, halt, register, sum, move, Run, start, or_else, recorded, put_in, stopped, apply, due, ended, obey, step, steps, over}
 use Rattle.execution.specs.ReadAgreement.{both, put-either}
 
 abbrev pub is_some : {A : Type 0} → Option A → Bool

@@ -1,10 +1,10 @@
 -- Demand 3 on the areas: lists of `act`, the function that the public contracts cite. Assumes nothing.
-use Rattle.std.specs.Prelude.{◌≡◌, Bool, cond, ℤ, length}
+use Rattle.std.specs.Prelude.{◌≡◌, Bool, cond, ℤ}
 use Rattle.std.proofs.Math.Path.{refl}
 use Rattle.std.proofs.Common.{sym, ap, ◌∙◌, arith}
 use Rattle.std.proofs.Math.Bool.{true, false}
 use mathlib.Core.List.{List, [], ◌∷◌, map}
-use Prim.Native.Nat.{ℕ, zero, suc, ◌≤◌}
+use Prim.Native.Nat.{ℕ, zero, suc}
 use Rattle.cells.specs.Cells.{Below}
 use Rattle.model.specs.declared.Limits.{Limits}
 use Rattle.model.specs.Interface.{Opening, by_values, Query, Call, opening, update, query, Yield, Answer, refused, yielded}

@@ -3,7 +3,7 @@ use crate::commands::{Answer, Lent};
 use console::arguments;
 use console::arguments::{Octet, Single};
 use console::faults::{Fault, Name};
-use text::{hexadecimal, numerals, words};
+use text::{hexadecimal, line_words, numerals};
 
 #[derive(Drop)]
 pub enum Area {
@@ -20,10 +20,10 @@ pub enum Operand {
 
 // The area that the next word names.
 fn named(line: &[u8], at: usize) -> Operand {
-    let w = words::next(line, at);
+    let w = line_words::next(line, at);
     let from = w.from;
     let to = w.to;
-    match words::place(b"record body", &line[from..to]) {
+    match line_words::place(b"record body", &line[from..to]) {
         0 => Operand::Is(Area::Record, to),
         1 => Operand::Is(Area::Body, to),
         _ => Operand::Unknown,
@@ -95,7 +95,7 @@ pub fn poke(
 
 // The bytes of an area as digits; `dump` takes no further word.
 fn dump_area(area: &[u8], line: &[u8], at: usize, out: &mut [u8]) -> Answer {
-    if words::ended(line, at) {
+    if line_words::ended(line, at) {
         Answer::Line(hexadecimal::put(out, 0, area))
     } else {
         Answer::Wrong(Fault::TooManyWords)

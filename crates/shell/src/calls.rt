@@ -7,7 +7,7 @@ use console::arguments::{Pair, Single, ValueList};
 use console::faults::{Fault, List, Name};
 use model::{Delivery, Finding, Preview, Reply};
 use text::hexadecimal::Digits;
-use text::{buffer, hexadecimal, words};
+use text::{buffer, hexadecimal, line_words};
 
 // The first n values, or all where there are fewer.
 fn first<'a>(values: &'a [i64], n: usize) -> &'a [i64]
@@ -132,13 +132,13 @@ fn early_into(
 ) -> Answer {
     match arguments::two_numbers(line, at, Name::Client, Name::Sequence) {
         Pair::Are(client, sequence, behind) => {
-            let w = words::next(line, behind);
+            let w = line_words::next(line, behind);
             let from = w.from;
             let to = w.to;
             let Digits::Bytes(n) = body_bytes(&line[from..to], body) else {
                 return Answer::Wrong(Fault::Body);
             };
-            if words::ended(line, to) {
+            if line_words::ended(line, to) {
                 let b = buffer::front(body, n);
                 let r: Reply = replica::deliver_optimistic(records, bodies, client, sequence, b);
                 Answer::Line(console_answers::put_reply(out, r))

@@ -3,7 +3,7 @@ ghost use Rattle.std.specs.Prelude.{◌≤◌};
 
 use crate::{areas, calls};
 use console::faults::Fault;
-use text::words;
+use text::line_words;
 
 // How many bytes of each area later calls are lent, at most.
 #[derive(Drop)]
@@ -46,7 +46,7 @@ pub enum Command {
 
 // The command that a line's first word names.
 fn named(word: &[u8]) -> Command {
-    match words::place(
+    match line_words::place(
         b"open early work final reader read close find show dry dump lend poke",
         word,
     ) {
@@ -121,7 +121,7 @@ pub fn run(
     line: &[u8],
     out: &mut [u8],
 ) -> Answer {
-    let w = words::next(line, 0);
+    let w = line_words::next(line, 0);
     let from = w.from;
     let to = w.to;
     match named(&line[from..to]) {

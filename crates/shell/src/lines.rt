@@ -7,7 +7,7 @@ use crate::commands::{Answer, Lent};
 use console::faults::Fault;
 use console::input::Input;
 use console::{faults, input, output};
-use text::{buffer, numerals, words};
+use text::{buffer, line_words, numerals};
 
 #[derive(Drop)]
 pub struct Progress {
@@ -92,7 +92,7 @@ fn is_silent(line: &[u8]) -> bool {
     if line[0] == b'#' {
         return true;
     }
-    words::ended(line, 0)
+    line_words::ended(line, 0)
 }
 
 // Answers a line that holds a command.

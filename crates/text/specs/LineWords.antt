@@ -1,7 +1,7 @@
 -- The words of a line. Assumes nothing.
 use Rattle.std.specs.Prelude.{◌≡◌, ℕ, zero, suc, ◌-◌, ◌<◌, ◌≤◌, Bool, true, false, cond, ◌||◌, ◌⊎◌, List, [], ◌∷◌, length, take, drop, ◌==◌, ◌≢◌}
 use Rattle.std.specs.Bool.{beq}
-use Rattle.text.specs.declared.words.Word.{Word}
+use Rattle.text.specs.declared.line_words.Word.{Word}
 
 -- a space or a tab
 unfoldable pub is_blank : ℕ → Bool

@@ -8,7 +8,7 @@ use native.Mathlib.Omega.{arith}
 use Rattle.std.proofs.Math.Seq.{drop-length, drop-cons}
 use borrow.Author.Count.{below_more}
 use Rattle.std.proofs.lemmas.Bool.{not-true, not-false}
-use Rattle.text.specs.declared.words.Word.{Word}
+use Rattle.text.specs.declared.line_words.Word.{Word}
 use Rattle.text.specs.LineWords.{is_blank, run, first_word, rest, bytes, Next, word, Placed}
 
 -- at index i of a line, where the byte is a blank or not

@@ -11,6 +11,7 @@ pub enum Digits {
 }
 
 // What a byte says as a digit; 16 where it is none.
+#[tactic(auto, unfolding(crate::specs::Hexadecimal::nibble_of))]
 fn nibble(byte: u8) -> u8
     ensures { result ≡ nibble_of byte }
 {
@@ -60,6 +61,7 @@ pub fn parse(word: &[u8], out: &mut [u8]) -> Digits
 }
 
 // The digit of a number below 16.
+#[tactic(auto, unfolding(crate::specs::Hexadecimal::glyph_of))]
 fn glyph(n: u8) -> u8
     requires { n < 16 }
     ensures { result ≡ glyph_of n }

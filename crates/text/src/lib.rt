@@ -3,6 +3,6 @@
 
 pub mod buffer;
 pub mod hexadecimal;
+pub mod line_words;
 pub mod numbers;
 pub mod numerals;
-pub mod words;

@@ -15,6 +15,7 @@ pub enum Integer {
 }
 
 // What a decimal digit says; 10 for any other byte.
+#[tactic(auto, unfolding(crate::specs::Numbers::digit_of))]
 fn digit(byte: u8) -> u64
     ensures { result ≡ digit_of byte }
 {
@@ -64,6 +65,7 @@ fn negative(digits: &[u8]) -> Integer
 }
 
 // Does a minus sign stand in front?
+#[tactic(auto, unfolding(crate::specs::Numbers::has_minus))]
 fn has_minus(word: &[u8]) -> bool
     ensures { result ≡ has_minus word.now }
 {

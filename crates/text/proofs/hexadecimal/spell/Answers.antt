@@ -1,0 +1,18 @@
+-- The two digits of the next byte stand behind those before it.
+use Rattle.std.proofs.Common.{refl, arith}
+use Rattle.std.proofs.Math.ListN.{length-set}
+use Rattle.text.specs.Hexadecimal.{spelled}
+use Rattle.text.specs.HexadecimalLaws.{spelled-more}
+use Rattle.text.proofs.hexadecimal.spell.Goals as goal
+
+pub loop-i-init : goal.loop-i-init
+unfolding spelled
+loop-i-init c = (omega arith, omega arith, refl)
+
+pub loop-i-preserved : goal.loop-i-preserved
+loop-i-preserved c =
+    let l = c.loop-i in (
+      omega arith,
+      simp length-set l.invariant.1,
+      spelled-more _ l.out l.i _ _ (omega arith) l.invariant.1 l.invariant.2 c.glyph.ensures c.glyph-in-loop-i.ensures,
+    )
