@@ -1,5 +1,5 @@
 -- The entries passed stand in the row. The measure: those to come.
-use Rattle.std.proofs.Common.{◌≡◌, ◌-◌, length}
+use Rattle.std.proofs.Common.{◌-◌}
 use Rattle.cells.specs.Cells.{cells}
 use Rattle.rows.specs.Storing.{Storing}
 use Rattle.rows.proofs.store_entries.Given as goal
