@@ -27,9 +27,6 @@ pub record Room (os : List ℕ) (vs : List ℤ) : Type 0 where
   pub objects : length os ≡ capacity
   pub values : length vs ≡ capacity
 
-pub room-set : (os : List ℕ) (vs : List ℤ) (i o : ℕ) (v : ℤ) → Room os vs → Room (set os i o) (set vs i v)
-room-set os vs i o v room = record { objects = length-set os i o ∙ room.objects; values = length-set vs i v ∙ room.values }
-
 -- neither set is longer than the counter
 pub record Bounded (c : Counts) : Type 0 where
   pub reads : c.reads ≤ c.counter

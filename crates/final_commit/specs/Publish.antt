@@ -10,8 +10,9 @@ use Rattle.model.specs.ListLaws.{All}
 use Rattle.model.specs.Replica.{Replica, opens}
 use Rattle.model.specs.Shape.{VersionsShape}
 use Rattle.layout.specs.Offsets.{Sane, reader_at, size_at}
-use Rattle.layout.specs.Holds.{Holds, holds-long}
-use Rattle.layout.specs.Reading.{readers-part}
+use Rattle.layout.specs.Holds.{Holds}
+use Rattle.layout.proofs.HoldsLaws.{holds-long}
+use Rattle.layout.proofs.Reading.{readers-part}
 use Rattle.final_commit.specs.Install.{Ready, installed}
 
 -- the local array has room for the readers' cells

@@ -4,7 +4,8 @@ use Rattle.cells.specs.Cells.{cells}
 use Rattle.execution.specs.declared.ObjectsAt.{ObjectsAt}
 use Rattle.execution.specs.Bounds.{inside}
 use Rattle.execution.specs.Run.{table_of}
-use Rattle.execution.specs.LentTable.{object_bounds, lent_allowed, lent_beside, allowed_at}
+use Rattle.execution.specs.LentTable.{object_bounds, lent_allowed, lent_beside}
+use Rattle.execution.proofs.LentTableLaws.{allowed_at}
 use Rattle.execution_effects.specs.OneOperation.{store_outside, store_again, store_new}
 use Rattle.execution_effects.proofs.store.Goals as goal
 

@@ -2,7 +2,7 @@
 use Rattle.std.proofs.Common.{◌≡◌, List, ℕ, ◌+◌, ◌-◌, ◌≤◌, ◌<◌, arith}
 use Rattle.cells.specs.Cells.{cells}
 use Rattle.operation.specs.Body.{size, operation_at, operations}
-use Rattle.operation.specs.BodyLaws.{formed, valid_at}
+use Rattle.operation.proofs.BodyLaws.{formed, valid_at}
 use Rattle.operation.specs.declared.Operation.{Operation}
 use Rattle.execution.specs.Run.{Table, object_count, apply, move, Run}
 use Rattle.execution.specs.LentTable.{lent_table}

@@ -2,10 +2,10 @@
 use Rattle.std.proofs.Common.{arith, ◌∙◌}
 use Rattle.cells.specs.Cells.{cells}
 use Rattle.operation.specs.Body.{register_count, listed, operations}
-use Rattle.operation.specs.BodyLaws.{formed, length-operations}
+use Rattle.operation.proofs.BodyLaws.{formed, length-operations}
 use Rattle.execution.specs.LentTable.{lent_table}
 use Rattle.execution.specs.Run.{object_count, start}
-use Rattle.execution.specs.Counting.{whole-counted}
+use Rattle.execution.proofs.Counting.{whole-counted}
 use Rattle.execution.specs.Arrays.{capacity, entries}
 use Rattle.execution_interpreter.specs.Budget.{run-whole}
 use Rattle.execution_interpreter.proofs.run.Goals as goal

@@ -2,7 +2,7 @@
 use mathlib.Core.Path.{refl}
 use borrow.Author.Rules.{rules}
 use Rattle.model.specs.Calls.{numbers}
-use Rattle.arith.specs.IntegerLaws.{read_back}
+use Rattle.arith.proofs.IntegerLaws.{read_back}
 use Rattle.ffi_numbers.specs.AnswerNumbers.{turned_back}
 use Rattle.ffi_numbers.proofs.reading_numbers.Statement.{statement}
 use Rattle.ffi_numbers.proofs.reading_numbers.Tie as tie

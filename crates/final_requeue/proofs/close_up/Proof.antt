@@ -2,7 +2,7 @@
 use mathlib.Core.Path.{sym, ◌∙◌}
 use Prim.Native.Nat.{◌≤◌, ◌-◌}
 use native.Mathlib.Omega.{arith}
-use Rattle.layout.specs.Printable.{few_pending}
+use Rattle.layout.proofs.PrintableLaws.{few_pending}
 use Rattle.final_requeue.specs.Leave.{Counted, Closing, closing-start, closing-sizes, closing_end, closing_queued, run-within, closing_moving, closing-next}
 use Rattle.final_requeue.proofs.close_up.Statement.{statement}
 use Rattle.final_requeue.proofs.close_up.Tie as tie

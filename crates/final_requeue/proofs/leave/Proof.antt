@@ -3,8 +3,8 @@ use mathlib.Core.Path.{◌≡◌}
 use native.Mathlib.Omega.{arith}
 use lib.ListN.{length}
 use borrow.Author.Rules.{rules}
-use Rattle.layout.specs.Holds.{holds-long}
-use Rattle.layout.specs.Reading.{count-read}
+use Rattle.layout.proofs.HoldsLaws.{holds-long}
+use Rattle.layout.proofs.Reading.{count-read}
 use Rattle.final_requeue.specs.Leave.{Paired, counted}
 use Rattle.final_requeue.specs.Clear.{closed_clearing, closed}
 use Rattle.final_requeue.proofs.leave.Statement.{statement}

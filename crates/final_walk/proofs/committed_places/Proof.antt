@@ -8,7 +8,7 @@ use borrow.Author.Rules.{rules}
 use Rattle.cells.specs.Cells.{cells}
 use Rattle.layout.specs.Offsets.{size_at, object_at, value_at, upper_at}
 use Rattle.committed_table.specs.Committed.{object_cell-inside, object-along, size-inside}
-use Rattle.execution.specs.Listed.{fill_next}
+use Rattle.execution.proofs.Listed.{fill_next}
 use Rattle.final_walk.proofs.committed_places.Statement.{statement}
 use Rattle.final_walk.proofs.committed_places.Tie as tie
 

@@ -4,7 +4,7 @@ use Prim.Native.Nat.{◌≤◌, ◌-◌}
 use native.Mathlib.Omega.{arith}
 use lib.ListN.{length}
 use borrow.Author.Rules.{rules}
-use Rattle.layout.specs.Reading.{count-read}
+use Rattle.layout.proofs.Reading.{count-read}
 use Rattle.final_walk.specs.Walk.{Walking, Walked, walk-long, walk-few, walked_start, walked_all, walk-there, walk-lying, walk-reads, walk-writes, walked-stale, walked_next}
 use Rattle.final_walk.proofs.first_stale.Statement.{statement}
 use Rattle.final_walk.proofs.first_stale.Tie as tie

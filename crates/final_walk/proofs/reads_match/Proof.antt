@@ -7,7 +7,7 @@ use mir.Syntax.{w64}
 use mir.Val.{to_z, of_z}
 use borrow.Author.Count.{below_more}
 use Rattle.cells.specs.Cells.{cells}
-use Rattle.arith.specs.IntegerLaws.{same_bits}
+use Rattle.arith.proofs.IntegerLaws.{same_bits}
 use Rattle.final_walk.specs.Places.{table_in}
 use Rattle.final_walk.specs.Recorded.{entry_from, read-there, reads_all, reads-differ}
 use Rattle.final_walk.proofs.reads_match.Statement.{statement}

@@ -4,8 +4,9 @@ use Prim.Native.Nat.{◌-◌}
 use native.Mathlib.Omega.{arith}
 use lib.ListN.{length}
 use borrow.Author.Rules.{rules}
-use Rattle.layout.specs.Holds.{holds-long, Holding}
-use Rattle.layout.specs.Reading.{count-read}
+use Rattle.layout.proofs.HoldsLaws.{holds-long}
+use Rattle.layout.specs.Holds.{Holding}
+use Rattle.layout.proofs.Reading.{count-read}
 use Rattle.final_walk.specs.RestartFrom.{Restarting, restart_start, restart_end, restart_length, row-there, restart_inside, restart_step}
 use Rattle.final_walk.proofs.restart_from.Statement.{statement}
 use Rattle.final_walk.proofs.restart_from.Tie as tie

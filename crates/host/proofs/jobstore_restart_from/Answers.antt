@@ -1,6 +1,6 @@
 -- The one at i is restarted, and then all from i + 1 on; at the end nothing is left to restart.
 use Rattle.std.proofs.Common.{sym, ◌∙◌}
-use Rattle.host.specs.RestartLaws.{restart_step, restart_done}
+use Rattle.host.proofs.RestartLaws.{restart_step, restart_done}
 use Rattle.host.proofs.jobstore_restart_from.Goals as goal
 
 pub loop-i-preserved : goal.loop-i-preserved

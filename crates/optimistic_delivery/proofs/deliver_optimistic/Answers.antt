@@ -2,15 +2,15 @@
 use Rattle.std.proofs.Common.{◌≡◌, true, false, ℕ, ◌<◌, ◌≤◌, ◌∙◌, sym, ap, arith, rules, length}
 use Rattle.cells.specs.Cells.{Below}
 use Rattle.operation.specs.Body.{is_well_formed}
-use Rattle.operation.specs.BodyLaws.{formed, taken, refused}
+use Rattle.operation.proofs.BodyLaws.{formed, taken, refused}
 use Rattle.model.specs.Calls.{clients, spent}
 use Rattle.layout.specs.Layout.{Areas, parse}
-use Rattle.layout.specs.Holds.{holds-long, bodies-long}
-use Rattle.layout.specs.Reading.{size-read}
-use Rattle.layout.specs.Contract.{met_by}
-use Rattle.layout.specs.Fit.{fit-holds, fit-bodies}
+use Rattle.layout.proofs.HoldsLaws.{holds-long, bodies-long}
+use Rattle.layout.proofs.Reading.{size-read}
+use Rattle.layout.proofs.ContractLaws.{met_by}
+use Rattle.layout.proofs.FitLaws.{fit-holds, fit-bodies}
 use Rattle.queue.specs.Found.{position}
-use Rattle.optimistic_delivery.specs.Delivered.{deliver-3, deliver-4, deliver-5, deliver-6, deliver-7, deliver-0}
+use Rattle.optimistic_delivery.proofs.DeliveredLaws.{deliver-3, deliver-4, deliver-5, deliver-6, deliver-7, deliver-0}
 use Rattle.optimistic_delivery.proofs.deliver_optimistic.Goals as goal
 
 pub returns-then-client-ge-CLIENTS : goal.returns-then-client-ge-CLIENTS

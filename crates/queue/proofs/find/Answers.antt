@@ -3,11 +3,11 @@ use Rattle.std.proofs.Common.{◌<◌, ◌∙◌, ap, arith}
 use Rattle.operation.specs.Body.{body_length}
 use Rattle.model.specs.Calls.{Query, clients, found}
 use Rattle.layout.specs.Layout.{Areas, parse}
-use Rattle.layout.specs.OffsetLaws.{body-room}
-use Rattle.layout.specs.Holds.{bodies-long}
-use Rattle.layout.specs.Contract.{met-query}
-use Rattle.layout.specs.Fit.{fit-holds, fit-bodies}
-use Rattle.layout.specs.Printable.{few_pending}
+use Rattle.layout.proofs.OffsetLaws.{body-room}
+use Rattle.layout.proofs.HoldsLaws.{bodies-long}
+use Rattle.layout.proofs.ContractLaws.{met-query}
+use Rattle.layout.proofs.FitLaws.{fit-holds, fit-bodies}
+use Rattle.layout.proofs.PrintableLaws.{few_pending}
 use Rattle.queue.specs.Found.{find-3, find-8, find-found}
 use Rattle.queue.proofs.find.Goals as goal
 

@@ -1,8 +1,8 @@
 -- The client's last number is a cell of the record area.
 use Rattle.std.proofs.Common.{ap, arith, leb}
 use Rattle.model.specs.Calls.{clients}
-use Rattle.layout.specs.Holds.{holds-long}
-use Rattle.layout.specs.Reading.{last-read}
+use Rattle.layout.proofs.HoldsLaws.{holds-long}
+use Rattle.layout.proofs.Reading.{last-read}
 use Rattle.queue.proofs.is_spent.Goals as goal
 
 pub get-requires : goal.get-requires

@@ -2,10 +2,11 @@
 use Rattle.std.proofs.Common.{◌≡◌, refl, ℕ, ◌*◌, ◌-◌, ◌∙◌, ap, arith, length}
 use Rattle.model.specs.Lists.{index}
 use Rattle.model.specs.Replica.{Replica, has_key}
-use Rattle.layout.specs.Holds.{Holds, holds-long}
-use Rattle.layout.specs.Printable.{few_pending}
-use Rattle.layout.specs.Reading.{count-read}
-use Rattle.queue.specs.Place.{index-most, rows-room, position-of}
+use Rattle.layout.specs.Holds.{Holds}
+use Rattle.layout.proofs.HoldsLaws.{holds-long}
+use Rattle.layout.proofs.PrintableLaws.{few_pending}
+use Rattle.layout.proofs.Reading.{count-read}
+use Rattle.queue.proofs.PlaceLaws.{index-most, rows-room, position-of}
 use Rattle.queue.proofs.locate.Goals as goal
 
 pub get-count-requires : goal.get-count-requires

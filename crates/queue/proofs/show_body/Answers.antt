@@ -1,7 +1,7 @@
 -- Find's answer names the place, and the part that is returned is that place's own bytes.
 use Rattle.std.proofs.Common.{refl, sym, arith}
 use Rattle.layout.specs.Layout.{Areas}
-use Rattle.layout.specs.Fit.{fit-bodies}
+use Rattle.layout.proofs.FitLaws.{fit-bodies}
 use Rattle.queue.specs.Shown.{shown-none, shown-low, shown-room, shown-some}
 use Rattle.queue.proofs.show_body.Goals as goal
 

@@ -1,7 +1,7 @@
 use Rattle.std.proofs.Common.{pos, arith}
 use Rattle.cells.specs.Cells.{cells}
 use Rattle.operation.specs.Body.{register_count}
-use Rattle.execution.specs.Listed.{all_listed}
+use Rattle.execution.proofs.Listed.{all_listed}
 use Rattle.rows.specs.RowRun.{register_in, registers_in}
 use Rattle.rows.proofs.load_registers.Goals as goal
 

@@ -3,7 +3,7 @@ use Rattle.cells.specs.Cells.{cells}
 use Rattle.cells.specs.Signed.{told}
 use Rattle.execution.specs.Entries.{Entry}
 use Rattle.execution.specs.Run.{object_count}
-use Rattle.execution.specs.TableLaws.{Laid, laid_none, in_table, laid_one, laid-all}
+use Rattle.execution.proofs.TableLaws.{Laid, laid_none, in_table, laid_one, laid-all}
 use Rattle.rows.specs.RowRun.{entry_in, entries_in}
 use Rattle.rows.proofs.overlay_writes.Invariants.{write, writes}
 use Rattle.rows.proofs.overlay_writes.Goals as goal

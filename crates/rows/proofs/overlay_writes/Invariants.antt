@@ -2,7 +2,7 @@
 use Rattle.std.proofs.Common.{List, ℕ, ◌+◌, ◌-◌, get_or}
 use Rattle.cells.specs.Cells.{cells}
 use Rattle.execution.specs.Entries.{Entry}
-use Rattle.execution.specs.TableLaws.{Laid}
+use Rattle.execution.proofs.TableLaws.{Laid}
 use Rattle.layout.specs.Offsets.{reads_at, entries_at}
 use Rattle.rows.specs.RowRun.{entry_in}
 use Rattle.rows.proofs.overlay_writes.Given as goal

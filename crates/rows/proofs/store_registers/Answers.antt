@@ -1,7 +1,7 @@
 use Rattle.std.proofs.Common.{◌≡◌, sym, ap, ◌∙◌, subst, ◌+◌, ◌^◌, ◌<◌, ℤ, pos, get_or, set, to_z, of_z, arith}
 use Rattle.std.specs.Int.{w64}
 use Rattle.std.specs.Int.Signed.{mag}
-use Rattle.arith.specs.IntegerLaws.{read_back}
+use Rattle.arith.proofs.IntegerLaws.{read_back}
 use Rattle.cells.specs.Cells.{cells}
 use Rattle.cells.specs.CellLaws.{length-cells}
 use Rattle.operation.specs.Body.{register_count}

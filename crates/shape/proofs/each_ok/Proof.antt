@@ -6,7 +6,7 @@ use lib.ListN.{length, length-take, length-drop}
 use borrow.Author.Rules.{rules}
 use Rattle.cells.specs.Cells.{cells}
 use Rattle.shape_row.specs.RowScan.{cells_of, place_of}
-use Rattle.versions.specs.BlockLoops.{less_times}
+use Rattle.versions.proofs.BlockLoops.{less_times}
 use Rattle.shape.specs.RowsWalk.{Walk, walk-on, walk_no, walk_end}
 use Rattle.shape.proofs.each_ok.Statement.{statement}
 use Rattle.shape.proofs.each_ok.Tie as tie

@@ -5,7 +5,7 @@ use Prim.Native.Nat.{ℕ}
 use lib.Dec.{ltb, leb}
 use borrow.Author.Rules.{rules}
 use Rattle.operation.specs.Body.{size}
-use Rattle.execution.specs.Ended.{body_ended}
+use Rattle.execution.proofs.Ended.{body_ended}
 use Rattle.shape.proofs.is_finished.Statement.{statement}
 use Rattle.shape.proofs.is_finished.Tie as tie
 

@@ -7,7 +7,7 @@ use lib.ListN.{get_or, length-take, length-drop}
 use borrow.Author.Rules.{rules}
 use Rattle.cells.specs.Cells.{cells}
 use Rattle.layout.specs.Offsets.{row_width, body_width}
-use Rattle.layout.specs.OffsetLaws.{blocks-span}
+use Rattle.layout.proofs.OffsetLaws.{blocks-span}
 use Rattle.layout.specs.Unchecked.{size_in}
 use Rattle.shape.specs.PendingParts.{used-here}
 use Rattle.shape.proofs.used_ok.Statement.{statement}

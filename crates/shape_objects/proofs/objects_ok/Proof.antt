@@ -8,7 +8,7 @@ use borrow.Author.Rules.{rules}
 use Rattle.cells.specs.Cells.{cells}
 use Rattle.model.specs.Calls.{last_timestamp}
 use Rattle.layout.specs.Offsets.{object_width}
-use Rattle.layout.specs.OffsetLaws.{object-span}
+use Rattle.layout.proofs.OffsetLaws.{object-span}
 use Rattle.layout.specs.Unchecked.{size_in}
 use Rattle.shape_objects.specs.HeaderParts.{objects-none, objects-many, objects-versions, objects-behind}
 use Rattle.shape_objects.proofs.objects_ok.Statement.{statement}

@@ -7,8 +7,8 @@ use borrow.Rule.Slice.PartMut.{mid_len}
 use Rattle.model.specs.Calls.{close_reader}
 use Rattle.layout.specs.Offsets.{reader_at}
 use Rattle.layout.specs.Holds.{with_readers}
-use Rattle.layout.specs.Reading.{cell-inside}
-use Rattle.layout.specs.Contract.{met-beside}
+use Rattle.layout.proofs.Reading.{cell-inside}
+use Rattle.layout.proofs.ContractLaws.{met-beside}
 use Rattle.snapshots.specs.ReaderAnswers.{close_reader-bodies, last-small, before-close, close_no_reader, put-cell, close_not_open, close_done}
 use Rattle.snapshots.proofs.close_reader.Goals as goal
 

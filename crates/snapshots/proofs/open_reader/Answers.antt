@@ -2,8 +2,8 @@
 use Rattle.std.proofs.Common.{◌≡◌, arith}
 use Rattle.model.specs.Calls.{open_reader}
 use Rattle.layout.specs.Offsets.{reader_at}
-use Rattle.layout.specs.Reading.{cell-inside, timestamp-low}
-use Rattle.layout.specs.Contract.{met-beside}
+use Rattle.layout.proofs.Reading.{cell-inside, timestamp-low}
+use Rattle.layout.proofs.ContractLaws.{met-beside}
 use Rattle.snapshots.specs.ReaderAnswers.{open_reader-bodies, open_no_reader, open_again, open_done}
 use Rattle.snapshots.proofs.open_reader.Goals as goal
 

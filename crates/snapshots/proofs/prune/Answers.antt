@@ -1,8 +1,8 @@
 -- The copied cells say which readers are open, and the blocks that are lent are given back pruned.
 use Rattle.std.proofs.Common.{◌≡◌, refl, sym, ap, ap₂, ◌∙◌, ℕ, ◌≤◌, List, ◌++◌, length, take, drop, arith, append-nil, take_all, drop_of_length-le}
 use Rattle.layout.specs.Offsets.{size_at}
-use Rattle.layout.specs.OffsetLaws.{blocks-span}
-use Rattle.layout.specs.Reading.{cell-inside, size-read, size_few, object-inside}
+use Rattle.layout.proofs.OffsetLaws.{blocks-span}
+use Rattle.layout.proofs.Reading.{cell-inside, size-read, size_few, object-inside}
 use Rattle.cells.specs.Cells.{cells}
 use Rattle.snapshots.specs.ReaderBlocks.{copied-readers, lent-checked, pruned-back}
 use Rattle.snapshots.proofs.prune.Goals as goal

@@ -7,11 +7,11 @@ use Rattle.model.specs.Serial.{Version}
 use Rattle.model.specs.declared.Limits.{Limits}
 use Rattle.model.specs.Replica.{Replica}
 use Rattle.model.specs.Calls.{read}
-use Rattle.versions.specs.Round.{seen-fits}
+use Rattle.versions.proofs.Round.{seen-fits}
 use Rattle.layout.specs.Offsets.{Sane, reader_at, size_at, object_width, versions_width, object_at}
 use Rattle.layout.specs.Holds.{Holds}
-use Rattle.layout.specs.Reading.{cell-inside, size-read, size_few, object-inside}
-use Rattle.layout.specs.Contract.{met-beside}
+use Rattle.layout.proofs.Reading.{cell-inside, size-read, size_few, object-inside}
+use Rattle.layout.proofs.ContractLaws.{met-beside}
 use Rattle.snapshots.specs.ReaderAnswers.{read-bodies, read-no_reader, read-not_open, read-no_object, read-sorted, seen-small, read_done}
 use Rattle.snapshots.proofs.read.Goals as goal
 

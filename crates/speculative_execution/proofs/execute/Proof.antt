@@ -8,7 +8,7 @@ use borrow.Author.Rules.{rules}
 use Rattle.cells.specs.Cells.{Below}
 use Rattle.model.specs.Calls.{Answer, most_work}
 use Rattle.layout.specs.Layout.{Areas}
-use Rattle.layout.specs.Contract.{met_by}
+use Rattle.layout.proofs.ContractLaws.{met_by}
 use Rattle.speculative_execution.specs.Answer.{Asked, too_many, readable, sorted_blocks, begun, small-counts, answered}
 use Rattle.speculative_execution.proofs.execute.Statement.{statement}
 use Rattle.speculative_execution.proofs.execute.Tie as tie

@@ -3,7 +3,7 @@ use Rattle.std.proofs.Common.{◌≡◌, ◌+◌, ◌*◌, ◌-◌, ◌≤◌, L
 use Rattle.std.proofs.Math.ListN.{length-take}
 use Rattle.cells.specs.Cells.{cells}
 use Rattle.versions.specs.Block.{width}
-use Rattle.versions.specs.BlockLoops.{less_times, none-times}
+use Rattle.versions.proofs.BlockLoops.{less_times, none-times}
 use Rattle.versions_close.specs.Closing.{Beside, pruned}
 use Rattle.versions_close.specs.ObjectLoop.{pruning_part, pruning_next, pruning_end}
 use Rattle.versions_close.proofs.prune_objects.Goals as goal

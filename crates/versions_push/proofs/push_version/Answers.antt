@@ -3,7 +3,7 @@
 use Rattle.std.proofs.Common.{◌∙◌, ap, ◌-◌, ◌^◌, List, ℕ, w64, of_z, to_z-of_z, arith, rules}
 use Rattle.cells.specs.Cells.{cells, uncells, Below}
 use Rattle.cells.specs.CellLaws.{cells-below, length_cells-whole}
-use Rattle.versions.specs.Round.{count-few, ok-framed}
+use Rattle.versions.proofs.Round.{count-few, ok-framed}
 use Rattle.versions_push.specs.Push.{push_done, push_room}
 use Rattle.versions_push.proofs.push_version.Goals as goal
 
