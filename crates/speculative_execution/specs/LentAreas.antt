@@ -3,7 +3,7 @@ use Rattle.std.specs.Prelude.{◌≡◌, refl, true, false, List, ℕ, ◌+◌, 
 use Rattle.std.proofs.Common.{sym, ap, ap₂, ◌∙◌, subst, arith, mul-le-mul_right, suc-mul}
 use borrow.Rule.Slice.PartMut.{mid_of, put_mid}
 use Rattle.cells.specs.Cells.{cells, uncells, Below}
-use Rattle.operation.specs.Body.{size, body_length}
+use Rattle.operation.specs.Body.{body_length}
 use Rattle.execution.specs.declared.ObjectsAt.{ObjectsAt}
 use Rattle.execution.specs.Run.{Beside, beside, object_count}
 use Rattle.execution.specs.LentTable.{lent_beside, BoundsWithin}
