@@ -1,11 +1,10 @@
 -- Computed examples. Assumes nothing.
-use Rattle.std.specs.Prelude.{◌≡◌, refl, List, [], ◌∷◌, ◌++◌, map, ℕ, pos, negsuc, replicate}
+use Rattle.std.specs.Prelude.{◌≡◌, refl, List, [], ◌∷◌, map, ℕ, pos, negsuc, replicate}
 use Rattle.operation.specs.Body.{register_count, listed}
 use Rattle.execution.specs.Entries.{entry}
 use Rattle.execution.specs.Arrays.{entries}
 use Rattle.execution.specs.Run.{start}
 use Rattle.model.specs.Calls.{last_timestamp}
-use Rattle.model.specs.Replica.{Pending}
 use Rattle.host.specs.declared.Counters.{Counters}
 use Rattle.host.specs.declared.PendingTransaction.{PendingTransaction}
 use Rattle.host.specs.Counting.{number_of_delivery, delivered, worked}

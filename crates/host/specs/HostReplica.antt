@@ -3,7 +3,7 @@
 --     delivery-counted   a final delivery that is taken, counted, gives its timestamp; one that is refused with 9 is refused here too
 --     restart_same       restarting records from a place on is restarting the model's transactions from there on
 --     walk-restart       so, from the right place on, it is what a final delivery's walk does
-use Rattle.std.specs.Prelude.{◌≡◌, refl, Bool, false, not, cond, List, [], ◌∷◌, ◌++◌, map, ℕ, zero, suc, ◌+◌, ◌≤◌, length, get_or, take, drop}
+use Rattle.std.specs.Prelude.{◌≡◌, refl, Bool, false, not, cond, List, [], ◌∷◌, ◌++◌, map, ℕ, zero, suc, ◌≤◌, length, get_or, take, drop}
 use Rattle.std.proofs.Common.{sym, ap, subst, ◌∙◌, arith}
 use Rattle.std.proofs.Math.Bool.{true}
 use Rattle.std.proofs.Math.Numerals.{add-one}
@@ -22,7 +22,7 @@ use Rattle.model.specs.Replica.{Pending, Replica, committed_table, finished, wal
 use Rattle.model.specs.EarlyResults.{sents, worked-sents}
 use Rattle.host.specs.declared.Counters.{Counters}
 use Rattle.host.specs.declared.PendingTransaction.{PendingTransaction}
-use Rattle.host.specs.Counting.{timestamp_after, number_of_delivery, delivered, worked}
+use Rattle.host.specs.Counting.{number_of_delivery, delivered, worked}
 use Rattle.host.specs.HostRestart.{restarted, restarted_behind}
 
 -- ---- pending transactions

@@ -1,5 +1,5 @@
 -- Restarting from a place on, one transaction at a time: what the loop of `jobstore_restart_from` goes by. Assumes nothing.
-use Rattle.std.specs.Prelude.{◌≡◌, refl, List, [], ◌∷◌, ◌++◌, map, ℕ, zero, suc, ◌+◌, ◌<◌, ◌≤◌, length, get_or, set}
+use Rattle.std.specs.Prelude.{◌≡◌, refl, List, [], ◌∷◌, ℕ, zero, suc, ◌+◌, ◌<◌, ◌≤◌, length, get_or, set}
 use Rattle.std.proofs.Common.{ap, ◌∙◌, not-suc-le-zero, le_of_suc-le-suc, add-one}
 use Rattle.host.specs.declared.PendingTransaction.{PendingTransaction}
 use Rattle.host.specs.HostRestart.{restarted, restarted_behind}
