@@ -1,0 +1,61 @@
+-- A turn of the loop over the entries, and its ends. The bounds of an entry's object lie in what was lent.
+use Rattle.std.proofs.Common.{◌≡◌, ◌+◌, ◌*◌, ◌≤◌, length, ℕ, sym, ap₂, ◌∙◌, arith}
+use Rattle.cells.specs.Cells.{cells}
+use Rattle.cells.specs.Signed.{told}
+use Rattle.shape_row.specs.RowScan.{bound_cell}
+use Rattle.shape_row.specs.RowTests.{stores-no, stores-on, stores-end, bounds-lent, named_on}
+use Rattle.shape_row.proofs.stores_ok.Goals as goal
+use Rattle.shape_row.proofs.stores_ok.Goals.{After-get}
+
+-- the cell of the entry's object's lower bound
+abbrev lower : After-get → ℕ
+lower c = c.get.result * c.object_cells-width.result + c.width-bounds.result
+
+lower-is : (c : After-get) → lower c ≡ bound_cell c.args.readers c.get.result
+lower-is c = ap₂ (λ (w b : ℕ). c.get.result * w + b) c.object_cells-width.ensures c.width-bounds.ensures
+
+lower-lent : (c : After-get) → (lower c + 2) * 8 ≤ length c.args.objects.now
+lower-lent c =
+    let a = c.args in
+    let i = c.loop-left in
+    let b = bounds-lent a.readers i.left i.at (cells a.entries.now) a.objects.now i.invariant.named c.loop-left-test.true c.get.result c.get.ensures in
+    omega (arith, lower-is c)
+
+pub overflow_mul-lower : goal.overflow_mul-lower
+overflow_mul-lower c = omega (arith, lower-lent (goal.at.overflow_mul-lower c).After-get)
+
+pub overflow_add-lower : goal.overflow_add-lower
+overflow_add-lower c = omega (arith, lower-lent (goal.at.overflow_add-lower c).After-get)
+
+pub allows-requires : goal.allows-requires
+allows-requires c = lower-lent (goal.at.allows-requires c).After-get
+
+pub loop-left-preserved : goal.loop-left-preserved
+loop-left-preserved c =
+    let a = c.args in
+    let i = c.loop-left in
+    let g = (goal.at.loop-left-preserved c).After-get in
+    let cs = cells a.entries.now in
+    record {
+      place = omega arith;
+      named = named_on a.readers i.left i.at cs a.objects.now i.invariant.named c.loop-left-test.true;
+      rest = i.invariant.rest
+          ∙ stores-on a.readers (cells a.objects.now) i.left i.at cs c.loop-left-test.true c.get.result c.get.ensures (lower g) (lower-is g)
+          _ (told c.get_signed.type_inv c.get_signed.ensures) c.allows.result c.allows.ensures c.if-allows.true;
+    }
+
+pub returns-else-allows : goal.returns-else-allows
+returns-else-allows c =
+    let a = c.args in
+    let i = c.loop-left in
+    let g = (goal.at.returns-else-allows c).After-get in
+    sym
+    (i.invariant.rest
+    ∙ stores-no a.readers (cells a.objects.now) i.left i.at (cells a.entries.now) c.loop-left-test.true c.get.result c.get.ensures (lower g) (lower-is g)
+    _ (told c.get_signed.type_inv c.get_signed.ensures) c.allows.result c.allows.ensures c.if-allows.false)
+
+pub returns : goal.returns
+returns c =
+    let a = c.args in
+    let i = c.loop-left in
+    sym (i.invariant.rest ∙ stores-end a.readers (cells a.objects.now) i.left i.at (cells a.entries.now) c.loop-left-test.false)
