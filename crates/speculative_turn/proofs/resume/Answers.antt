@@ -1,7 +1,7 @@
 -- The row is loaded, its run carried on and stored; the writes of a finished one go over the table.
 use Rattle.std.proofs.Common.{refl, sym, ◌∙◌}
 use Rattle.operation.specs.Body.{register_count}
-use Rattle.speculative_turn.specs.Advance.{Ran, some-body, lent, unstopped, ran, storable, overlays, leaves}
+use Rattle.speculative_turn.specs.Advance.{Ran, some-body, lent, ran, storable, overlays, leaves}
 use Rattle.speculative_turn.specs.AreaRow.{area_row, beside_in}
 use Rattle.speculative_turn.proofs.resume.Goals as goal
 use Rattle.speculative_turn.proofs.resume.Goals.{After-execute-e}
