@@ -3,7 +3,7 @@ use Rattle.std.proofs.Common.{refl, sym, ap, ◌≤◌, get_or, Fits, w8, arith,
 use Rattle.cells.specs.Cells.{Below}
 use Rattle.model.specs.Calls.{Answer, most_work}
 use Rattle.layout.specs.Layout.{Areas}
-use Rattle.layout.specs.Contract.{met_by}
+use Rattle.layout.proofs.ContractLaws.{met_by}
 use Rattle.speculative_execution.specs.Answer.{Asked, too_many, readable, sorted_blocks, begun, small-counts, answered}
 use Rattle.speculative_execution.proofs.execute.Goals as goal
 use Rattle.speculative_execution.proofs.execute.Goals.{Else-count-gt-MOST_WORK, After-execute_pending-t}

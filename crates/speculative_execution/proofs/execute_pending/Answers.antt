@@ -5,7 +5,7 @@ use Rattle.cells.specs.Cells.{cells, Below}
 use Rattle.operation.specs.Body.{body_length}
 use Rattle.layout.specs.Layout.{Areas, parse}
 use Rattle.layout.specs.Offsets.{record_length, body_at}
-use Rattle.layout.specs.Fit.{fit-says, lengths-say}
+use Rattle.layout.proofs.FitLaws.{fit-says, lengths-say}
 use Rattle.speculative_execution.specs.Passing.{Worked}
 use Rattle.speculative_execution.specs.LentAreas.{pending-there, low-place, body-inside, begun_first, begun-last, lent-ready, lent-most, lent-next, lent-last}
 use Rattle.speculative_execution.proofs.execute_pending.Goals as goal
