@@ -8,7 +8,6 @@ use Rattle.cells.specs.Cells.{cells}
 use Rattle.cells.specs.CellLaws.{cells-drop}
 use Rattle.model.specs.declared.Limits.{Limits}
 use Rattle.model.specs.Lists.{index}
-use Rattle.model.specs.Calls.{spent}
 use Rattle.model.specs.Replica.{Pending, Replica, has_key, pending_of}
 use Rattle.model.proofs.ListLaws.{index-map, all_map, all-implies, index_same, get_or_map-in}
 use Rattle.layout.specs.Layout.{of_key, row_of}
@@ -18,7 +17,6 @@ use Rattle.layout.proofs.PrintableLaws.{few_pending}
 use Rattle.layout.specs.Holds.{Holds}
 use Rattle.layout.proofs.HoldsLaws.{holds-long}
 use Rattle.layout.proofs.Reading.{get-row}
-use Rattle.queue.specs.declared.Place.{Place}
 use Rattle.layout.specs.RowKeys.{keys}
 use Rattle.layout.proofs.RowKeysLaws.{length-keys, get_or-keys}
 
