@@ -1,5 +1,5 @@
 -- The shape check of the header and the objects as the code goes, for limits l: w are the cells of the record area. Assumes nothing.
-use Rattle.std.specs.Prelude.{Bool, ◌&&◌, List, ℕ, ◌+◌, ◌-◌, ◌^◌, leb, ltb, take, drop, get_or}
+use Rattle.std.specs.Prelude.{Bool, ◌&&◌, List, ℕ, ◌+◌, ◌^◌, leb, ltb, take, drop, get_or}
 use Rattle.std.proofs.Math.Seq.{slice}
 use Rattle.cells.specs.Zeros.{zeros}
 use Rattle.model.specs.Lists.{all}
