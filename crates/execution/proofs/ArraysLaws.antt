@@ -1,10 +1,6 @@
 -- What follows from `specs/Arrays`. Assumes nothing.
-use Rattle.std.specs.Prelude.{ℕ, ◌≤◌, ◌≡◌, List, ℤ, pos, length, get_or, set}
+use Rattle.std.specs.Prelude.{ℕ, List, ℤ, set}
 use Rattle.std.proofs.Common.{◌∙◌, length-set}
-use Rattle.operation.specs.Body.{listed}
-use Rattle.execution.specs.declared.Counts.{Counts}
-use Rattle.execution.specs.Entries.{Entry, entry}
-use Rattle.execution.specs.Run.{Run}
 use Rattle.execution.specs.Arrays.{Room}
 
 pub room-set : (os : List ℕ) (vs : List ℤ) (i o : ℕ) (v : ℤ) → Room os vs → Room (set os i o) (set vs i v)

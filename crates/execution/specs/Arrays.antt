@@ -1,6 +1,5 @@
 -- A run as the interpreter holds it: counts by value, registers and both sets in lent arrays. Assumes nothing.
-use Rattle.std.specs.Prelude.{ℕ, ◌≤◌, ◌≡◌, List, ℤ, pos, length, get_or, set}
-use Rattle.std.proofs.Common.{◌∙◌, length-set}
+use Rattle.std.specs.Prelude.{ℕ, ◌≤◌, ◌≡◌, List, ℤ, pos, length, get_or}
 use Rattle.operation.specs.Body.{listed}
 use Rattle.execution.specs.declared.Counts.{Counts}
 use Rattle.execution.specs.Entries.{Entry, entry}

@@ -1,6 +1,6 @@
 -- The table as the code is lent it: the values in a list, stamps and bounds in cells. Assumes nothing.
-use Rattle.std.specs.Prelude.{ℕ, ◌+◌, ◌*◌, ◌≤◌, ◌<◌, ◌≡◌, Bool, cond, List, ℤ, ltb, get_or}
-use Rattle.std.proofs.Common.{ap, to_z, lt-ltb}
+use Rattle.std.specs.Prelude.{ℕ, ◌+◌, ◌*◌, ◌≤◌, ◌<◌, Bool, cond, List, ℤ, ltb, get_or}
+use Rattle.std.proofs.Common.{to_z}
 use Rattle.std.specs.Int.{w64}
 use Rattle.execution.specs.declared.ObjectsAt.{ObjectsAt}
 use Rattle.execution.specs.Bounds.{Bounds, no_bounds, inside}

@@ -1,23 +1,14 @@
 -- What every run of a well-formed body keeps, and what the shape check asks of a run on record: the program counter at most m, both sets of
 -- different objects below n and together no more than the counter, values of 64 bits, no writes after an early stop. Assumes nothing.
-use Rattle.std.specs.Prelude.{◌≡◌, ◌⊎◌, ◌≢◌, Bool, true, false, not, cond, ◌&&◌, ℤ, pos, ◌+ℤ◌, ◌-ℤ◌, eqb, ltb, length, set, replicate}
-use Rattle.std.proofs.Math.Path.{refl}
-use Rattle.std.proofs.Common.{sym, ap, ◌∙◌, inl, inr, true≢false, arith, length-set, length-drop, eq-eqb, ne_eqb, eqb-true, lt-ltb}
-use Rattle.std.proofs.Math.Option.{Option, none, some, get_or, none-ne-some, some-injective}
+use Rattle.std.specs.Prelude.{◌≡◌, ◌⊎◌, Bool, true, false, not, ◌&&◌, ℤ, ltb, length}
+use Rattle.std.proofs.Math.Option.{Option, none, some}
 use mathlib.Core.List.{List, [], ◌∷◌}
-use Prim.Native.Nat.{ℕ, zero, suc, ◌+◌, ◌≤◌, ◌<◌}
-use Rattle.std.specs.Int.Signed.{lt_z}
-use Rattle.std.proofs.Math.ListN.{drop}
-use Rattle.std.proofs.lemmas.List.{length-replicate}
-use Rattle.std.proofs.lemmas.Bool.{eqb-false}
-use Rattle.arith.specs.Integer.{fits, quotient}
-use Rattle.arith.proofs.IntegerLaws.{quotient_fits}
+use Prim.Native.Nat.{ℕ, ◌+◌, ◌≤◌, ◌<◌}
+use Rattle.arith.specs.Integer.{fits}
 use Rattle.operation.specs.Body.{register_count}
-use Rattle.operation.specs.BodyLaws.{Valid}
 use Rattle.operation.specs.declared.Operation.{Operation}
-use Rattle.operation.specs.declared.Operation.TheVariants.{Load, Store, Set, Add, Subtract, Skip, Fail, Divide}
-use Rattle.execution.specs.Entries.{Entry, entry, lookup, update, append}
-use Rattle.execution.specs.Run.{Table, Stop, failed, overflowed, outside, outcome_of, Move, get, put, go, halt, register, sum, move, Run, start, or_else, recorded, put_in, stopped, apply, due, ended, obey, step, steps, over}
+use Rattle.execution.specs.Entries.{Entry, lookup}
+use Rattle.execution.specs.Run.{Move, get, put, go, halt, Run, start}
 
 abbrev pub is_some : {A : Type 0} → Option A → Bool
 is_some none = false

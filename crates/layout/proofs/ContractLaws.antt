@@ -1,5 +1,5 @@
 -- What follows from `specs/Contract`. Assumes nothing.
-use Rattle.std.specs.Prelude.{◌≡◌, true, false, List, map, ℕ, ◌≤◌}
+use Rattle.std.specs.Prelude.{◌≡◌, true, false, List, map, ℕ}
 use Rattle.std.proofs.Common.{sym, ap, ◌∙◌}
 use Rattle.cells.specs.Cells.{Below}
 use Rattle.model.specs.declared.Limits.{Limits}
@@ -9,7 +9,7 @@ use Rattle.model.proofs.Queries.{query-same}
 use Rattle.model.specs.Shape.{Shape}
 use Rattle.layout.specs.Layout.{Areas, parse, print, body_of}
 use Rattle.layout.specs.Offsets.{Sane}
-use Rattle.layout.specs.Holds.{Holds, HoldsBodies}
+use Rattle.layout.specs.Holds.{Holds}
 use Rattle.layout.proofs.HoldsLaws.{holds-print}
 use Rattle.layout.proofs.Bodies.{same-bodies}
 use Rattle.layout.specs.Fit.{fit}

@@ -1,16 +1,12 @@
 -- What follows from `specs/Field`. Assumes nothing.
-use Rattle.std.specs.Prelude.{◌≡◌, refl, List, [], ◌∷◌, ◌++◌, map, ℕ, zero, suc, ◌+◌, ◌-◌, ◌*◌, ◌≤◌, ◌<◌, length, take, drop, get_or, set}
-use Rattle.std.proofs.Common.{sym, ap, ap₂, ◌∙◌, append_assoc, append-nil, not-suc-le-zero, le_of_suc-le-suc, mul-le-mul_right, arith, length-append, length-drop, length-set, take-append-drop, take_at, drop_at, length-take-le, drop-drop, take-add, take-take, get_or-take, get_or-drop}
-use Rattle.std.proofs.Math.Nat.{zero-sub, sub-zero, suc-sub-suc}
-use Rattle.std.proofs.lemmas.List.{length-map, drop-append-le, set_at}
-use Rattle.std.proofs.Math.Seq.{take-nil}
-use borrow.Rule.Slice.PartMut.{put_mid, mid_of, same_len_mid}
-use Rattle.cells.specs.Cells.{uncells}
-use Rattle.cells.specs.Uncells.{length-uncells, uncells-part, uncells-back}
+use Rattle.std.specs.Prelude.{◌≡◌, List, [], ◌∷◌, ◌++◌, map, ℕ, ◌+◌, ◌-◌, ◌*◌, ◌≤◌, ◌<◌, length, drop, get_or, set}
+use Rattle.std.proofs.Common.{sym, ap, ◌∙◌, append-nil, mul-le-mul_right, arith, length-append, length-set, take_at, drop_at, drop-drop, take-take}
+use Rattle.std.proofs.lemmas.List.{length-map}
+use borrow.Rule.Slice.PartMut.{put_mid, mid_of}
 use Rattle.model.specs.ListLaws.{All}
 use Rattle.model.proofs.ListLaws.{map-set, all_in, all_set, get_or_map-in}
 use Rattle.layout.proofs.RowLaws.{put-seam, mid_seam, table-length, row_read, row_write}
-use Rattle.layout.specs.Codec.{Codec, pair, array, counted, bytewise}
+use Rattle.layout.specs.Codec.{Codec, pair, array, counted}
 pub use Rattle.layout.specs.Lawful.{Sized}
 pub use Rattle.layout.proofs.LawfulLaws.{sized, uniform}
 use Rattle.layout.specs.Field.{drop-take, put-put, Field}

@@ -1,5 +1,5 @@
 -- What follows from `specs/Fields`. Assumes nothing.
-use Rattle.std.specs.Prelude.{◌≡◌, refl, List, [], ℕ, ◌+◌, ◌≤◌, ◌<◌, length}
+use Rattle.std.specs.Prelude.{◌≡◌, refl, List, [], ℕ, ◌+◌, ◌<◌, length}
 use Rattle.std.proofs.Math.Option.{none}
 use native.Mathlib.Omega.{arith}
 use Rattle.std.proofs.lemmas.List.{length-map}
@@ -8,10 +8,9 @@ use Rattle.execution.specs.Bounds.{no_bounds}
 use Rattle.model.specs.declared.Limits.{Limits}
 use Rattle.model.specs.Calls.{clients}
 use Rattle.model.specs.Replica.{Replica}
-use Rattle.model.specs.ListLaws.{All}
 use Rattle.layout.specs.Codec.{cell, pair, array, counted}
-use Rattle.layout.specs.Layout.{reader, Row, row, Stored, Front, RecordArea, versions, bounds, object, front, tail, record_cells, record_area, body_area, row_of, record_of}
-use Rattle.layout.specs.Offsets.{Sane, last_at, reader_at, size_at, object_width, lower_at, object_at, pending_at, row_width, row_at, record_length, bodies_length}
+use Rattle.layout.specs.Layout.{reader, Row, row, Stored, versions, bounds, object, front, tail, record_cells, row_of, record_of}
+use Rattle.layout.specs.Offsets.{Sane, last_at, reader_at, size_at, lower_at, object_at, pending_at, row_at}
 use Rattle.layout.specs.Lawful.{Sized, Word}
 use Rattle.layout.proofs.LawfulLaws.{sized, lawful_cell, lawful_rows}
 use Rattle.layout.specs.Printable.{ReaderFits, RowFits, LastsFit, ReadersFit, ObjectFits, BoundsFit, StoredFits, ObjectsFit, RowsFit, TailFits, Printable}

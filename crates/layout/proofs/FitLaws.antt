@@ -1,5 +1,5 @@
 -- What follows from `specs/Fit`. Assumes nothing.
-use Rattle.std.specs.Prelude.{◌≡◌, refl, Bool, true, ℕ, suc, ◌^◌, ◌≤◌, ◌<◌, ℤ, eqb, leb}
+use Rattle.std.specs.Prelude.{◌≡◌, refl, true, ℕ, suc, ◌^◌, ◌≤◌, ◌<◌, ℤ, eqb, leb}
 use Rattle.std.proofs.Common.{ap, ◌∙◌, arith}
 use Rattle.std.proofs.Math.Path.{ap₂}
 use Rattle.std.proofs.Math.Bool.{◌&&◌}

@@ -8,10 +8,9 @@ use Rattle.cells.specs.CellLaws.{cells-uncells}
 use Rattle.model.specs.declared.Limits.{Limits}
 use Rattle.model.specs.Replica.{Replica}
 pub use Rattle.model.specs.Replica.{with_timestamp, with_objects, with_lasts, with_pending, with_readers, with_bounds}
-use Rattle.layout.specs.Layout.{record_cells, record_area, body_area, body_of, record_of, bodies_of, Areas, parse, print, lengths, laid}
+use Rattle.layout.specs.Layout.{record_cells, body_of, record_of, bodies_of, Areas, parse, print, lengths, laid}
 use Rattle.layout.specs.Offsets.{Sane, record_length, bodies_length}
 use Rattle.layout.proofs.LawfulLaws.{all-below}
-use Rattle.layout.specs.Printable.{Printable}
 use Rattle.layout.proofs.PrintableLaws.{record_fits, lawful_record-cells, lawful_record, lawful_bodies, few_pending}
 use Rattle.layout.proofs.RoundTrips.{print-parse, parse-fits}
 use Rattle.layout.specs.Fields.{sizes}

@@ -1,5 +1,5 @@
 -- What follows from `specs/LentBlock`. Assumes nothing.
-use Rattle.std.specs.Prelude.{◌≡◌, refl, true, List, [], ℕ, ◌-◌, ◌*◌, ◌<◌, length, get_or}
+use Rattle.std.specs.Prelude.{◌≡◌, refl, true, List, [], ℕ, ◌*◌, ◌<◌, length, get_or}
 use Rattle.std.proofs.Common.{ap, ap₂, ◌∙◌, arith}
 use Rattle.std.proofs.Math.Option.{none, some}
 use borrow.Rule.Slice.PartMut.{mid_of}
@@ -10,10 +10,10 @@ use Rattle.model.specs.Replica.{Replica}
 use Rattle.model.specs.Shape.{falling}
 use Rattle.model.proofs.ListLaws.{all_in}
 use Rattle.model.specs.LookedAt.{looked_at}
-use Rattle.versions.specs.Block.{block_versions, block, looked_at_from, SortedBlock}
+use Rattle.versions.specs.Block.{block_versions, block, SortedBlock}
 use Rattle.versions.proofs.Round.{length-block, length_block-versions, parsed}
 use Rattle.layout.specs.Layout.{of_reader}
-use Rattle.layout.specs.Offsets.{Sane, reader_at, versions_width, object_at}
+use Rattle.layout.specs.Offsets.{Sane, versions_width, object_at}
 use Rattle.layout.specs.Printable.{ObjectFits}
 use Rattle.layout.proofs.PrintableLaws.{fits-small}
 use Rattle.layout.specs.Holds.{Holds}

@@ -1,14 +1,13 @@
 -- What follows from `specs/Printable`. Assumes nothing.
-use Rattle.std.specs.Prelude.{◌≡◌, refl, true, List, [], ◌∷◌, ◌++◌, map, ℕ, zero, suc, ◌+◌, ◌*◌, ◌/◌, ◌%◌, ◌^◌, ◌≤◌, ◌<◌, ℤ, pos, length, get_or, set, drop, replicate}
+use Rattle.std.specs.Prelude.{◌≡◌, refl, true, List, [], ◌∷◌, ◌++◌, ℕ, zero, suc, ◌+◌, ◌*◌, ◌/◌, ◌%◌, ◌^◌, ◌≤◌, ◌<◌, ℤ, pos, length, get_or, set, drop, replicate}
 use Rattle.std.proofs.Common.{ap, ◌∙◌, arith, length-append, length-drop, take-append-drop, get_or-drop, take_at, drop_at, length-take-le, le-leb, leb-true, to_z, of_z, SFits, to_z-of_z}
 use Rattle.std.proofs.Math.Option.{Option, none, some}
 use Rattle.std.proofs.lemmas.List.{length-map, length-replicate}
 use Rattle.std.specs.Int.{w64}
 use Rattle.std.proofs.Math.Facts.{of_z-to_z, sfits_to_z}
 use Rattle.operation.specs.Body.{register_count, body_length}
-use Rattle.execution.specs.Entries.{Entry}
 use Rattle.execution.specs.Bounds.{Bounds, no_bounds}
-use Rattle.execution.specs.Run.{Run, start}
+use Rattle.execution.specs.Run.{start}
 use Rattle.model.specs.declared.Limits.{Limits}
 use Rattle.model.specs.Calls.{clients}
 use Rattle.model.specs.Serial.{Version}
@@ -19,9 +18,9 @@ use Rattle.versions.specs.Block.{block_versions, block, Small}
 use Rattle.versions.proofs.Round.{count-few, small-block_versions, length_block-versions, versions_of-block, length-block, below-block, framed-block, block_of-versions}
 use Rattle.layout.specs.Codec.{Codec, counted}
 use Rattle.layout.specs.Layout.{signed, reader, reader_of, of_reader, key_of, of_key, key, entry_of, of_entry, entry, parted, joined, within, two, run_of, of_run, run}
-use Rattle.layout.specs.Layout.{Row, row, Stored, Front, Tail, RecordArea, versions, bounds_of, of_bounds, bounds, object, stored_from, stored_of, front, tail, record_cells, record_area, body, body_area, row_of, body_of, tail_of, record_of, bodies_of}
+use Rattle.layout.specs.Layout.{row, Stored, versions, bounds_of, of_bounds, bounds, object, stored_from, stored_of, front, tail, record_cells, record_area, body, body_area, row_of, record_of, bodies_of}
 use Rattle.layout.specs.Offsets.{Sane}
-use Rattle.layout.specs.Lawful.{Lawful, Padded, Byte, Word}
+use Rattle.layout.specs.Lawful.{Lawful, Byte, Word}
 use Rattle.layout.proofs.LawfulLaws.{lawful_cell, lawful_pair, lawful_via, lawful_iso, lawful_rows, lawful_counted, lawful_padded, lawful_bytes, below_all, all-below}
 use Rattle.layout.specs.Printable.{ValueFits, ReaderFits, KeyFits, BoundsFit, VersionFits, EntryFits, TwoFit, RunFits, RowFits, ObjectFits, StoredFits, ObjectsFit, RowsFit, FrontFits, TailFits, RecordFits, Any, BodyFits, Printable}
 

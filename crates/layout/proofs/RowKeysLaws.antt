@@ -1,5 +1,5 @@
 -- What follows from `specs/RowKeys`. Assumes nothing.
-use Rattle.std.specs.Prelude.{◌≡◌, refl, List, [], ◌∷◌, ℕ, zero, suc, ◌+◌, ◌*◌, ◌≤◌, ◌<◌, length, drop, get_or, eqb}
+use Rattle.std.specs.Prelude.{◌≡◌, refl, List, ℕ, zero, suc, ◌+◌, ◌*◌, ◌≤◌, ◌<◌, length, drop, get_or, eqb}
 use Rattle.std.proofs.Common.{sym, ap, ◌∙◌, arith, not-suc-le-zero, le_of_suc-le-suc, get_or-drop, eq-eqb, ne_eqb}
 use Rattle.model.specs.Lists.{index}
 use Rattle.model.proofs.ListLaws.{index_at}

@@ -1,17 +1,15 @@
 -- What every call promises, inside as at the face: its answer and both areas are those of `act`; and how it follows from what a call leaves. Assumes nothing.
-use Rattle.std.specs.Prelude.{◌≡◌, true, false, List, map, ℕ, ◌≤◌}
-use Rattle.std.proofs.Common.{sym, ap, ◌∙◌}
+use Rattle.std.specs.Prelude.{◌≡◌, true, List, ℕ, ◌≤◌}
 use Rattle.cells.specs.Cells.{Below}
 use Rattle.model.specs.declared.Limits.{Limits}
-use Rattle.model.specs.Calls.{Call, Query, query, Answer}
+use Rattle.model.specs.Calls.{Call, Answer}
 use Rattle.model.specs.Replica.{Replica, call}
-use Rattle.model.proofs.Queries.{query-same}
 use Rattle.model.specs.Shape.{Shape}
-use Rattle.layout.specs.Layout.{Areas, parse, print, body_of}
+use Rattle.layout.specs.Layout.{Areas, parse}
 use Rattle.layout.specs.Offsets.{Sane}
 use Rattle.layout.specs.Holds.{Holds, HoldsBodies}
 use Rattle.layout.specs.Fit.{fit}
-use Rattle.layout.specs.Act.{asked, unfit, act}
+use Rattle.layout.specs.Act.{act}
 
 -- Limits that the local arrays have room for.
 pub record Supported (l : Limits) : Type 0 where

@@ -1,16 +1,14 @@
 -- Fields of a layout: where one lies, and that to read or write its numbers is to read or write it in the value. Composed as layouts are.
 -- Assumes nothing.
-use Rattle.std.specs.Prelude.{◌≡◌, refl, List, [], ◌∷◌, ◌++◌, map, ℕ, zero, suc, ◌+◌, ◌-◌, ◌*◌, ◌≤◌, ◌<◌, length, take, drop, get_or, set}
-use Rattle.std.proofs.Common.{sym, ap, ap₂, ◌∙◌, append_assoc, append-nil, not-suc-le-zero, le_of_suc-le-suc, mul-le-mul_right, arith, length-append, length-drop, length-set, take-append-drop, take_at, drop_at, length-take-le, drop-drop, take-add, take-take, get_or-take, get_or-drop}
+use Rattle.std.specs.Prelude.{◌≡◌, refl, List, [], ◌∷◌, ◌++◌, ℕ, zero, suc, ◌+◌, ◌-◌, ◌*◌, ◌≤◌, ◌<◌, length, take, drop, get_or, set}
+use Rattle.std.proofs.Common.{sym, ap, ap₂, ◌∙◌, append_assoc, not-suc-le-zero, le_of_suc-le-suc, arith, length-drop, take-append-drop, length-take-le, drop-drop, take-add, take-take, get_or-take, get_or-drop}
 use Rattle.std.proofs.Math.Nat.{zero-sub, sub-zero, suc-sub-suc}
-use Rattle.std.proofs.lemmas.List.{length-map, drop-append-le, set_at}
+use Rattle.std.proofs.lemmas.List.{drop-append-le, set_at}
 use Rattle.std.proofs.Math.Seq.{take-nil}
 use borrow.Rule.Slice.PartMut.{put_mid, mid_of, same_len_mid}
 use Rattle.cells.specs.Cells.{uncells}
 use Rattle.cells.specs.Uncells.{length-uncells, uncells-part, uncells-back}
-use Rattle.model.specs.ListLaws.{All}
-use Rattle.model.proofs.ListLaws.{map-set, all_in, all_set, get_or_map-in}
-use Rattle.layout.specs.Codec.{Codec, pair, array, counted, bytewise}
+use Rattle.layout.specs.Codec.{Codec, bytewise}
 pub use Rattle.layout.specs.Lawful.{Sized}
 
 -- ---- a part of a part

@@ -1,20 +1,14 @@
 -- The fields of the record area, and their offsets. Assumes nothing.
-use Rattle.std.specs.Prelude.{◌≡◌, refl, List, [], ℕ, ◌+◌, ◌≤◌, ◌<◌, length}
-use Rattle.std.proofs.Math.Option.{none}
+use Rattle.std.specs.Prelude.{◌≡◌, refl, List, ℕ, ◌≤◌, ◌<◌, length}
 use native.Mathlib.Omega.{arith}
-use Rattle.std.proofs.lemmas.List.{length-map}
 use Rattle.operation.specs.Body.{register_count}
-use Rattle.execution.specs.Bounds.{no_bounds}
 use Rattle.model.specs.declared.Limits.{Limits}
 use Rattle.model.specs.Calls.{clients}
-use Rattle.model.specs.Replica.{Replica}
 use Rattle.model.specs.ListLaws.{All}
-use Rattle.layout.specs.Codec.{cell, pair, array, counted}
-use Rattle.layout.specs.Layout.{reader, Row, row, Stored, Front, RecordArea, versions, bounds, object, front, tail, record_cells, record_area, body_area, row_of, record_of}
-use Rattle.layout.specs.Offsets.{Sane, last_at, reader_at, size_at, object_width, lower_at, object_at, pending_at, row_width, row_at, record_length, bodies_length}
-use Rattle.layout.specs.Lawful.{Sized, Word}
-use Rattle.layout.specs.Printable.{ReaderFits, RowFits, LastsFit, ReadersFit, ObjectFits, BoundsFit, StoredFits, ObjectsFit, RowsFit, TailFits, Printable}
-use Rattle.layout.specs.Field.{Field}
+use Rattle.layout.specs.Layout.{Row, row, Stored, Front, RecordArea, object, record_area, body_area}
+use Rattle.layout.specs.Offsets.{object_width, row_width, record_length, bodies_length}
+use Rattle.layout.specs.Lawful.{Word}
+use Rattle.layout.specs.Printable.{RowFits, LastsFit, ReadersFit, StoredFits, TailFits}
 
 -- ---- the record area, with what is known of its objects and its rows
 

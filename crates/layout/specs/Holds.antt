@@ -1,17 +1,10 @@
 -- What code knows of an area while it works on it: which replica it holds. Reading.antt and Writing.antt have the laws. Assumes nothing.
-use Rattle.std.specs.Prelude.{◌≡◌, true, List, ℕ, ◌^◌, length}
-use Rattle.std.proofs.Math.Path.{sym}
-use Rattle.std.proofs.Common.{ap, ◌∙◌, arith}
-use Rattle.std.proofs.lemmas.List.{length-map}
-use Rattle.cells.specs.Cells.{cells, Below}
-use Rattle.cells.specs.CellLaws.{cells-uncells}
+use Rattle.std.specs.Prelude.{◌≡◌, List, ℕ, length}
 use Rattle.model.specs.declared.Limits.{Limits}
 use Rattle.model.specs.Replica.{Replica}
 pub use Rattle.model.specs.Replica.{with_timestamp, with_objects, with_lasts, with_pending, with_readers, with_bounds}
-use Rattle.layout.specs.Layout.{record_cells, record_area, body_area, body_of, record_of, bodies_of, Areas, parse, print, lengths, laid}
-use Rattle.layout.specs.Offsets.{Sane, record_length, bodies_length}
+use Rattle.layout.specs.Layout.{record_area, body_area, record_of, bodies_of}
 use Rattle.layout.specs.Printable.{Printable}
-use Rattle.layout.specs.Fields.{sizes}
 
 -- the record area b holds u
 pub record Holds (l : Limits) (b : List ℕ) (u : Replica) : Type 0 where

@@ -1,25 +1,10 @@
 -- The laws of layouts, composed as the layouts are: what is written is read back, and what passes the check is written back. Assumes nothing.
-use Rattle.std.specs.Prelude.{◌≡◌, refl, Bool, true, ◌&&◌, take, get_or, leb}
-use Rattle.std.proofs.Math.Path.{sym, ap}
-use Rattle.std.proofs.Common.{ap₂, ◌∙◌, subst, not-suc-le-zero, mul-le-mul_right, take-append-drop, take_at, get_or-take}
-use mathlib.Core.List.{List, [], ◌∷◌, ◌++◌, map}
-use Prim.Native.Nat.{ℕ, zero, suc, ◌+◌, ◌-◌, ◌*◌, ◌^◌, ◌≤◌, ◌<◌}
-use native.Mathlib.Omega.{arith}
-use Rattle.std.proofs.Math.ListN.{length, drop, length-append, length-drop, length-replicate}
-use Rattle.std.proofs.lemmas.List.{length-map}
-use Rattle.std.proofs.Math.Seq.{drop_at, length-take-le}
-use borrow.Author.Tests.{le-leb, leb-true}
-use Rattle.cells.specs.Cells.{cells, uncells, Below}
-use Rattle.cells.specs.Uncells.{length-uncells}
-use Rattle.cells.specs.CellLaws.{length-cells, uncells-cells, cells-uncells, cells-below, uncells-below}
-use Rattle.execution.proofs.ReadAgreement.{both}
-use Rattle.model.specs.Lists.{all}
+use Rattle.std.specs.Prelude.{◌≡◌, Bool, true, get_or}
+use mathlib.Core.List.{List}
+use Prim.Native.Nat.{ℕ, ◌^◌, ◌≤◌, ◌<◌}
+use Rattle.std.proofs.Math.ListN.{length}
 use Rattle.model.specs.ListLaws.{All}
-use Rattle.model.proofs.ListLaws.{all_join, all_take, all_drop}
-use Rattle.cells.specs.Zeros.{zeros, zeros-replicate, zeros-true}
-use Rattle.layout.specs.Rows.{flat, chunks, table, blank, pad_to}
-use Rattle.layout.specs.RowLaws.{Uniform, length-chunks}
-use Rattle.layout.specs.Codec.{Codec, cell, pair, via, rows, counted, padded, bytewise}
+use Rattle.layout.specs.Codec.{Codec}
 
 -- K holds of each number of a block, as "below 256" of bytes; Good values are those that can be written
 pub record Lawful (K : ℕ → Type 0) {A : Type 0} (c : Codec A) (Good : A → Type 0) : Type 0 where

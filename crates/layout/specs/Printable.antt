@@ -1,27 +1,20 @@
 -- Which values each part of the areas can hold, and the laws of the two areas, by composition. Assumes nothing.
-use Rattle.std.specs.Prelude.{◌≡◌, refl, true, List, [], ◌∷◌, ◌++◌, map, ℕ, zero, suc, ◌+◌, ◌*◌, ◌/◌, ◌%◌, ◌^◌, ◌≤◌, ◌<◌, ℤ, pos, length, get_or, set, drop, replicate}
-use Rattle.std.proofs.Common.{ap, ◌∙◌, arith, length-append, length-drop, take-append-drop, get_or-drop, take_at, drop_at, length-take-le, le-leb, leb-true, to_z, of_z, SFits, to_z-of_z}
-use Rattle.std.proofs.Math.Option.{Option, none, some}
-use Rattle.std.proofs.lemmas.List.{length-map, length-replicate}
+use Rattle.std.specs.Prelude.{◌≡◌, List, map, ℕ, suc, ◌+◌, ◌^◌, ◌≤◌, ◌<◌, ℤ, length}
+use Rattle.std.proofs.Common.{SFits}
+use Rattle.std.proofs.Math.Option.{Option}
 use Rattle.std.specs.Int.{w64}
-use Rattle.std.proofs.Math.Facts.{of_z-to_z, sfits_to_z}
 use Rattle.operation.specs.Body.{register_count, body_length}
 use Rattle.execution.specs.Entries.{Entry}
-use Rattle.execution.specs.Bounds.{Bounds, no_bounds}
-use Rattle.execution.specs.Run.{Run, start}
+use Rattle.execution.specs.Bounds.{Bounds}
+use Rattle.execution.specs.Run.{Run}
 use Rattle.model.specs.declared.Limits.{Limits}
 use Rattle.model.specs.Calls.{clients}
 use Rattle.model.specs.Serial.{Version}
 use Rattle.model.specs.Replica.{Replica}
 use Rattle.model.specs.ListLaws.{All}
-use Rattle.model.proofs.ListLaws.{all_join, all_take, all_drop}
-use Rattle.versions.specs.Block.{block_versions, block, Small}
-use Rattle.versions.proofs.Round.{count-few, small-block_versions, length_block-versions, versions_of-block, length-block, below-block, framed-block, block_of-versions}
-use Rattle.layout.specs.Codec.{Codec, counted}
-use Rattle.layout.specs.Layout.{signed, reader, reader_of, of_reader, key_of, of_key, key, entry_of, of_entry, entry, parted, joined, within, two, run_of, of_run, run}
-use Rattle.layout.specs.Layout.{Row, row, Stored, Front, Tail, RecordArea, versions, bounds_of, of_bounds, bounds, object, stored_from, stored_of, front, tail, record_cells, record_area, body, body_area, row_of, body_of, tail_of, record_of, bodies_of}
-use Rattle.layout.specs.Offsets.{Sane}
-use Rattle.layout.specs.Lawful.{Lawful, Padded, Byte, Word}
+use Rattle.layout.specs.Layout.{of_reader}
+use Rattle.layout.specs.Layout.{Row, Stored, Front, Tail, RecordArea, row_of, body_of, tail_of}
+use Rattle.layout.specs.Lawful.{Padded, Word}
 
 -- ---- one cell
 

@@ -1,17 +1,10 @@
 -- Laws of rows: tables and their parts. Assumes nothing.
-use Rattle.std.specs.Prelude.{◌≡◌, true, take, drop, get_or, set}
+use Rattle.std.specs.Prelude.{◌≡◌, drop}
 use Rattle.std.proofs.Math.Path.{refl, ap}
-use Rattle.std.proofs.Common.{sym, ◌∙◌, not-suc-le-zero, le_of_suc-le-suc, add-mul, length-set, take-append-drop, take-add}
-use mathlib.Core.List.{List, [], ◌∷◌, ◌++◌, append_assoc, append-nil}
-use Prim.Native.Nat.{ℕ, zero, suc, ◌+◌, ◌-◌, ◌*◌, ◌≤◌, ◌<◌}
-use Rattle.std.proofs.Math.Nat.{zero-mul, suc-mul, zero-sub, sub-zero, suc-sub-suc}
-use native.Mathlib.Omega.{arith}
-use Rattle.std.proofs.Math.ListN.{length, length-append, length-drop, length-replicate}
-use Rattle.std.proofs.lemmas.List.{replicate-append-replicate}
-use Rattle.std.proofs.Math.Seq.{take_at, drop_at, length-take-le, split_at, set_split}
-use borrow.Rule.Slice.PartMut.{put_mid, mid_of}
-use Rattle.layout.specs.Rows.{flat, chunks, blank, table}
-use Rattle.cells.specs.Zeros.{zeros, zeros-replicate, zeros-true}
+use mathlib.Core.List.{List, [], ◌∷◌}
+use Prim.Native.Nat.{ℕ, zero, suc}
+use Rattle.std.proofs.Math.ListN.{length}
+use Rattle.layout.specs.Rows.{chunks}
 
 -- ---- rows taken from a list
 

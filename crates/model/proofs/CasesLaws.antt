@@ -1,14 +1,6 @@
 -- What follows from `specs/Cases`. Assumes nothing.
-use Rattle.std.specs.Prelude.{◌≡◌, refl, true, false, List, [], ◌∷◌, map, ℕ, ℤ, pos, negsuc, replicate}
-use Rattle.operation.specs.Encode.{encode}
-use Rattle.operation.specs.declared.Operation.{Operation}
-use Rattle.operation.specs.declared.Operation.TheVariants.{Load, Store, Set, Add, Subtract, Skip, Fail, Divide}
-use Rattle.model.specs.Calls.{Opening, by_values, plain, Call, optimistic, execute, final, open_reader, read, close_reader, find}
-use Rattle.model.specs.Calls.{Answer, refused, done, executed, committed, value, seen}
-use Rattle.model.specs.Start.{Version, start_of, Object}
-use Rattle.model.specs.Serial as serial
-use Rattle.model.specs.Replica.{Replica, newest, committed_objects, opened, calls}
-use Rattle.model.specs.Limits.{standard}
+use Rattle.std.specs.Prelude.{◌≡◌, refl, map}
+use Rattle.model.specs.Calls.{seen}
 use Rattle.model.proofs.Computing.{computing}
 use Rattle.model.specs.Cases.{outcome, cases, expected, on_replica, on_serial, serially, bounded_programs, alone, worked_on, run_again, kept, run_serially, History, bounded_histories, called, stamp_history, rework_history}
 

@@ -5,7 +5,6 @@ use Rattle.std.proofs.Math.Logic.{inl, inr}
 use Rattle.execution.specs.Run.{Table, start, step, steps, whole, matches, over}
 use Rattle.execution.proofs.ReadAgreement.{both, steps-agree, stay, ended-whole}
 use Rattle.model.specs.Lists.{keep}
-use Rattle.model.specs.Calls.{Transaction}
 use Rattle.model.specs.Replica.{Pending, program, finished, advance, used, worked, restarted, walk, validated, result}
 use Rattle.model.specs.ListLaws.{All}
 use Rattle.model.proofs.ListLaws.{all_keep, all_append, map_map-same}

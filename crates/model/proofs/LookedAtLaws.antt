@@ -10,7 +10,7 @@ use Rattle.std.proofs.Math.ListN.{get_or-map}
 use Rattle.execution.specs.Entries.{Entry, lookup}
 use Rattle.execution.proofs.ReadAgreement.{both}
 use Rattle.model.specs.declared.Limits.{Limits}
-use Rattle.model.specs.Lists.{any, all, count, index, mapi}
+use Rattle.model.specs.Lists.{any, all, count, mapi}
 use Rattle.model.specs.Interface.{optimistic, execute, final, open_reader, close_reader, Call, opening, update, query}
 use Rattle.model.specs.Calls.{refusal, judged}
 use Rattle.model.specs.Start.{Version, no_version, start_of}

@@ -1,15 +1,15 @@
 -- What follows from `specs/ShapeCheck`. Assumes nothing.
-use Rattle.std.specs.Prelude.{◌≡◌, refl, Bool, true, false, not, ◌&&◌, ◌||◌, List, [], ◌∷◌, ℕ, suc, ◌+◌, ◌^◌, ◌≤◌, ◌<◌, pos, eqb, leb, ltb, length, get_or}
+use Rattle.std.specs.Prelude.{◌≡◌, refl, Bool, true, false, List, [], ◌∷◌, ℕ, suc, ◌+◌, ◌^◌, ◌≤◌, ◌<◌, pos, leb, ltb, length}
 use Rattle.std.proofs.Common.{inl, inr, arith}
 use Rattle.std.proofs.lemmas.Bool.{false≢true}
 use Rattle.arith.specs.Integer.{fits, eq_z}
 use Rattle.operation.specs.Body.{register_count, size, is_well_formed}
 use Rattle.operation.proofs.BodyLaws.{formed}
 use Rattle.execution.specs.Entries.{Entry}
-use Rattle.execution.specs.Bounds.{Bounds, no_bounds, ordered, inside}
+use Rattle.execution.specs.Bounds.{Bounds, ordered}
 use Rattle.execution.specs.Run.{Run}
 use Rattle.execution.proofs.ReadAgreement.{both}
-use Rattle.execution.specs.RunShape.{distinct, every, all_fit, AllInside}
+use Rattle.execution.specs.RunShape.{distinct, every, all_fit}
 use Rattle.model.specs.declared.Limits.{Limits}
 use Rattle.model.specs.Lists.{any, all, all₂}
 use Rattle.model.specs.Calls.{Transaction, spent, clients, last_timestamp}

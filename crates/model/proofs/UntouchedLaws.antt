@@ -1,5 +1,5 @@
 -- What follows from `specs/Untouched`. Assumes nothing.
-use Rattle.std.specs.Prelude.{◌≡◌, Bool, cond, ◌&&◌, ℤ, ltb, length, set}
+use Rattle.std.specs.Prelude.{◌≡◌, Bool, ◌&&◌, ℤ, ltb, length, set}
 use Rattle.std.proofs.Math.Path.{refl}
 use Rattle.std.proofs.Common.{sym, ap, ◌∙◌, true≢false, arith, ltb-true, ltb-false}
 use Rattle.std.proofs.Math.Bool.{true, false}

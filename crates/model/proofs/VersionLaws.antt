@@ -11,13 +11,12 @@ use Rattle.std.proofs.Math.ListN.{get_or-map}
 use borrow.Author.Tests.{eq-eqb, eqb-true, le-leb, leb-true, lt-leb}
 use Rattle.execution.specs.Entries.{Entry, lookup}
 use Rattle.execution.specs.Bounds.{Bounds, no_bounds, inside}
-use Rattle.execution.specs.Run.{Table}
 use Rattle.execution.proofs.ReadAgreement.{both}
-use Rattle.model.specs.Lists.{pick, any, all, mapi}
+use Rattle.model.specs.Lists.{pick, any, all}
 use Rattle.model.specs.declared.Limits.{Limits}
 use Rattle.model.specs.Interface.{Opening, by_values, opening}
 use Rattle.model.specs.Calls.{Facts, refusal}
-use Rattle.model.specs.Start.{Version, no_version, Start, start_of}
+use Rattle.model.specs.Start.{Version, no_version, start_of}
 use Rattle.model.specs.Replica.{newest, as_of, opens, held, prune, table, pushed, install}
 use Rattle.model.specs.ListLaws.{All}
 use Rattle.model.proofs.ListLaws.{or_right, any-has, pick-keep, length-mapi, map-mapi, map_mapi-same, map_map-same, all-mapi}

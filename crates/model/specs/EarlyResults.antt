@@ -1,13 +1,9 @@
 -- The early results on record are those of running the pending transactions in optimistic order, and finished ones stand first: preserved by work, by a
 -- commit's walk, by a delivery and by leaving. A validated run is the whole run on the committed table. Assumes nothing.
-use Rattle.std.specs.Prelude.{◌≡◌, refl, ◌⊎◌, Bool, true, false, cond, ◌&&◌, List, [], ◌∷◌, ◌++◌, map, ℕ, zero, suc, ◌-◌}
-use Rattle.std.proofs.Common.{sym, ap, ◌∙◌, true≢false}
-use Rattle.std.proofs.Math.Logic.{inl, inr}
-use Rattle.execution.specs.Run.{Table, start, step, steps, whole, matches, over}
-use Rattle.execution.proofs.ReadAgreement.{both, steps-agree, stay, ended-whole}
-use Rattle.model.specs.Lists.{keep}
+use Rattle.std.specs.Prelude.{◌≡◌, ◌⊎◌, true, List, [], ◌∷◌, map, ℕ}
+use Rattle.execution.specs.Run.{Table, start, steps, over}
 use Rattle.model.specs.Calls.{Transaction}
-use Rattle.model.specs.Replica.{Pending, program, finished, advance, used, worked, restarted, walk, validated, result}
+use Rattle.model.specs.Replica.{Pending, program, finished}
 use Rattle.model.specs.ListLaws.{All}
 
 -- the run on record is the run on this table, up to some operation

@@ -1,24 +1,18 @@
 -- The shape check as a test that computes, and that it says exactly the shape of specs/Shape.antt. Assumes nothing.
-use Rattle.std.specs.Prelude.{◌≡◌, refl, Bool, true, false, not, ◌&&◌, ◌||◌, List, [], ◌∷◌, ℕ, suc, ◌+◌, ◌^◌, ◌≤◌, ◌<◌, pos, eqb, leb, ltb, length, get_or}
-use Rattle.std.proofs.Common.{inl, inr, arith}
-use Rattle.std.proofs.lemmas.Bool.{false≢true}
+use Rattle.std.specs.Prelude.{Bool, true, false, not, ◌&&◌, ◌||◌, List, [], ◌∷◌, ℕ, suc, ◌+◌, ◌^◌, pos, eqb, leb, ltb, length, get_or}
 use Rattle.arith.specs.Integer.{fits, eq_z}
-use Rattle.operation.specs.Body.{register_count, size, is_well_formed}
-use Rattle.operation.proofs.BodyLaws.{formed}
+use Rattle.operation.specs.Body.{register_count, is_well_formed}
 use Rattle.execution.specs.Entries.{Entry}
 use Rattle.execution.specs.Bounds.{Bounds, no_bounds, ordered, inside}
 use Rattle.execution.specs.Run.{Run}
-use Rattle.execution.proofs.ReadAgreement.{both}
 use Rattle.execution.specs.RunShape.{distinct, every, all_fit, AllInside}
 use Rattle.model.specs.declared.Limits.{Limits}
 use Rattle.model.specs.Lists.{any, all, all₂}
 use Rattle.model.specs.Calls.{Transaction, spent, clients, last_timestamp}
 use Rattle.model.specs.Serial.{Version}
 use Rattle.model.specs.Replica.{Pending, Replica, opens, held, finished}
-use Rattle.model.specs.ListLaws.{All}
 use Rattle.model.specs.EarlyResults.{sents}
-use Rattle.model.specs.Shape.{falling, VersionsShape, versions_inside, distinct_keys, Unspent, AtStart, Names, Sets, size_of, InOrder, RunEncoded, bounds_fit, Encoded, Shape}
-use Rattle.model.specs.ShapeRuns.{State, Standing, NonEmpty, AllSets, AllAtStart}
+use Rattle.model.specs.Shape.{falling, versions_inside, distinct_keys, size_of, bounds_fit}
 
 -- ---- the tests
 

@@ -1,24 +1,12 @@
 -- Versions: what a commit, pruning and a reader's close leave to the newest version and to the open readers. Assumes nothing.
-use Rattle.std.specs.Prelude.{◌≡◌, refl, ◌⊎◌, Bool, false, cond, ◌||◌, List, [], ◌∷◌, map, ℕ, zero, suc, ◌≤◌, ◌<◌, ℤ, length, get_or, set}
-use Rattle.std.proofs.Common.{sym, ◌∙◌, inl, inr, arith}
-use Rattle.std.proofs.Math.Path.{ap}
-use Rattle.std.proofs.Math.Bool.{true}
-use Rattle.std.proofs.lemmas.Bool.{false≢true}
-use Rattle.std.proofs.Math.Option
+use Rattle.std.specs.Prelude.{List, ℕ, ◌≤◌, ℤ, get_or}
 use Rattle.std.proofs.Math.Option.{Option, none, some}
-use Rattle.std.proofs.Math.Dec.{eqb, leb}
-use Rattle.std.proofs.Math.ListN.{get_or-map}
-use borrow.Author.Tests.{eq-eqb, eqb-true, le-leb, leb-true, lt-leb}
 use Rattle.execution.specs.Entries.{Entry, lookup}
 use Rattle.execution.specs.Bounds.{Bounds, no_bounds, inside}
 use Rattle.execution.specs.Run.{Table}
-use Rattle.execution.proofs.ReadAgreement.{both}
-use Rattle.model.specs.Lists.{pick, any, all, mapi}
-use Rattle.model.specs.declared.Limits.{Limits}
-use Rattle.model.specs.Interface.{Opening, by_values, opening}
-use Rattle.model.specs.Calls.{Facts, refusal}
-use Rattle.model.specs.Start.{Version, no_version, Start, start_of}
-use Rattle.model.specs.Replica.{newest, as_of, opens, held, prune, table, pushed, install}
+use Rattle.model.specs.Lists.{mapi}
+use Rattle.model.specs.Start.{Version, no_version, Start}
+use Rattle.model.specs.Replica.{newest}
 use Rattle.model.specs.ListLaws.{All}
 
 -- ---- a committed state with a write set over it, at a timestamp

@@ -9,7 +9,7 @@ use Rattle.arith.specs.Integer.{fits}
 use Rattle.operation.specs.declared.Operation.{Operation}
 use Rattle.operation.specs.declared.Operation.TheVariants.{Load, Store, Set, Add, Subtract, Skip, Fail, Divide}
 use Rattle.operation.specs.declared.Decoded.TheVariants.{WellFormed, Malformed}
-use Rattle.operation.specs.Body.{register_count, longest_skip, most_divisor, size, kind_byte, first_byte, second_byte, constant_word}
+use Rattle.operation.specs.Body.{register_count, size, kind_byte, first_byte, second_byte, constant_word}
 use Rattle.operation.specs.Body.{operation_of, operation_at, listed, operations, allowed, allowed_at, each, is_well_formed, pick_decoded, decoded}
 use Rattle.operation.specs.BodyLaws.{Place, Formed, Valid}
 

@@ -1,16 +1,11 @@
 -- Laws of a body: its operations as a list, and what a well_formed body promises of each of them. Assumes nothing.
-use Rattle.std.specs.Prelude.{ℕ, zero, suc, ◌+◌, ◌-◌, ◌*◌, ◌^◌, ◌≤◌, ◌<◌, ◌≡◌, refl, Bool, true, false, ◌&&◌, T, ltb, length, get_or, drop}
-use Rattle.std.proofs.Common.{sym, ap, subst, ◌∙◌, ⊎_elim, eq-or-lt_of_le, le_of_suc-le-suc, arith, length-drop, drop-cons, ltb-true, ltb-false, leb-true, eqb-true, lt-ltb, le-leb, eq-eqb, to_z}
-use Rattle.std.proofs.Math.Option.{some}
-use mathlib.Core.List.{List, [], ◌∷◌, head?}
-use Rattle.std.proofs.Math.ListN.{get_or-eq_default}
-use Rattle.std.specs.Int.{w64}
+use Rattle.std.specs.Prelude.{ℕ, ◌+◌, ◌-◌, ◌*◌, ◌≤◌, ◌<◌, ◌≡◌, true, length}
+use mathlib.Core.List.{List}
 use Rattle.arith.specs.Integer.{fits}
 use Rattle.operation.specs.declared.Operation.{Operation}
 use Rattle.operation.specs.declared.Operation.TheVariants.{Load, Store, Set, Add, Subtract, Skip, Fail, Divide}
-use Rattle.operation.specs.declared.Decoded.TheVariants.{WellFormed, Malformed}
-use Rattle.operation.specs.Body.{register_count, longest_skip, most_divisor, size, kind_byte, first_byte, second_byte, constant_word}
-use Rattle.operation.specs.Body.{operation_of, operation_at, listed, operations, allowed, allowed_at, each, is_well_formed, pick_decoded, decoded}
+use Rattle.operation.specs.Body.{register_count, longest_skip, most_divisor, size}
+use Rattle.operation.specs.Body.{operation_at, allowed_at}
 
 -- where a part of the list starts with an operation, that is operation i, and the rest is what comes after it
 pub record Place (b : List ℕ) (i : ℕ) (x : Operation) (rest : List Operation) : Type 0 where

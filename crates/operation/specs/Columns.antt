@@ -1,15 +1,8 @@
 -- The rules as `decode` tests them, a column for each limit, and that these tests are the rules of specs/Body.antt.
 -- A skip's limit is `second + i < m`, so that no column changes from one operation to the next. Assumes nothing.
-use Prim.Native.Nat.{ℕ, zero, suc, ◌+◌, ◌-◌, ◌*◌, ◌^◌, ◌<◌, ◌≤◌}
-use Rattle.std.specs.Prelude.{◌≡◌, refl, List, [], ◌∷◌, Bool, true, false, ◌&&◌, length, get_or, ltb}
-use Rattle.std.proofs.Common.{sym, ◌∙◌, ⊎_elim, eq-or-lt_of_le, le_of_suc-le-suc}
-use Rattle.std.proofs.Math.Bool.{and-true, and-false, and_assoc}
-use native.Mathlib.Omega.{arith}
-use Rattle.std.proofs.Math.ListN.{get_or-eq_default}
-use Rattle.std.proofs.Math.Dec.{leb, eqb, leb-zero, leb-suc-zero, leb-suc-suc, eqb-suc-zero}
-use borrow.Author.Tests.{leb-true, leb-false, le-leb, lt-leb}
-use Rattle.words.specs.Words.{loaded}
-use Rattle.operation.specs.Body.{register_count, longest_skip, most_divisor, size, kind_byte, first_byte, second_byte, rules, allowed, allowed_at, each, is_well_formed}
+use Prim.Native.Nat.{ℕ, ◌+◌, ◌*◌}
+use Rattle.std.specs.Prelude.{[], ◌∷◌, Bool, ◌&&◌, get_or, ltb}
+use Rattle.std.proofs.Math.Dec.{leb}
 
 -- No limit may allow more operations than this: a skip that does not reach past the end is then at most 15 long.
 abbrev pub most_operations : ℕ
