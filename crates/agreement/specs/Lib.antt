@@ -1,11 +1,7 @@
 pub mod Trace
-pub mod TraceLaws
 pub mod Agreement
 pub mod Lookups
 pub mod CeilingOnAreas
 pub mod DryRunOnAreas
 pub mod ExchangeOnAreas
-pub mod ExchangeExample
-pub mod CasesOnAreas
-pub mod TwoKinds
 pub mod ContractTrace

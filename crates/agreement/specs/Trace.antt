@@ -5,8 +5,8 @@ use Rattle.model.specs.Interface.{Opening, optimistic, execute, final, open_read
 use Rattle.model.specs.Start.{start_of}
 use Rattle.model.specs.Replica.{Replica}
 use Rattle.model.specs.ListLaws.{All}
-use Rattle.model.specs.ShapeKept.{Typed}
-use Rattle.model.specs.Replicas.{Event, delivery, reopening}
+use Rattle.model.proofs.ShapeKept.{Typed}
+use Rattle.model.proofs.Replicas.{Event, delivery, reopening}
 use Rattle.layout.specs.Layout.{Areas, parse}
 use Rattle.layout.specs.Offsets.{Sane}
 use Rattle.layout.specs.Act.{act, acts}

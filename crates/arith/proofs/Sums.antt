@@ -6,7 +6,7 @@ use Rattle.std.specs.Int.Signed.{lt_z}
 use Rattle.std.specs.Int.{w64}
 use Rattle.arith.specs.declared.Checked.TheVariants.{Value, Overflow}
 use Rattle.arith.specs.Integer.{fits, bounded}
-use Rattle.arith.specs.IntegerLaws.{pos_part, neg_part, sum-parts, difference_parts, less_parts, not-less_parts, fits-parts, in_range, above-range, below-range, fits→SFits, SFits→fits}
+use Rattle.arith.proofs.IntegerLaws.{pos_part, neg_part, sum-parts, difference_parts, less_parts, not-less_parts, fits-parts, in_range, above-range, below-range, fits→SFits, SFits→fits}
 
 -- The edge of x for the sum or difference z. On the low side z is at most x, and one below the range where x is the edge;
 -- on the other it is at least x, and the highest number where x is the edge.

@@ -14,15 +14,18 @@ use Rattle.model.specs.declared.Limits.{Limits}
 use Rattle.model.specs.Serial.{Version}
 use Rattle.model.specs.Replica.{Replica, newest, as_of, opens, committed_table}
 use Rattle.model.specs.Shape.{falling, VersionsShape, Shape}
-use Rattle.model.specs.ListLaws.{All, all_in, all-implies}
-use Rattle.model.specs.VersionLaws.{Until, as_of-now, newest-until}
+use Rattle.model.specs.ListLaws.{All}
+use Rattle.model.proofs.ListLaws.{all_in, all-implies}
+use Rattle.model.specs.VersionLaws.{Until}
+use Rattle.model.proofs.VersionLaws.{as_of-now, newest-until}
 use Rattle.versions.specs.Block.{seen_from, SortedBlock}
 use Rattle.layout.specs.Offsets.{Sane, size_at, object_width, versions_width, object_at, stamp_at, lower_at, upper_at, record_length}
 use Rattle.layout.specs.Printable.{BoundsFit}
-use Rattle.layout.specs.RowCells.{block-newest}
-use Rattle.layout.specs.Holds.{Holds, holds-long}
-use Rattle.layout.specs.Reading.{get-timestamp, get-size, get-object, get-lower, get-upper}
-use Rattle.layout.specs.LentBlock.{lent-object, lent-sorted}
+use Rattle.layout.proofs.RowCells.{block-newest}
+use Rattle.layout.specs.Holds.{Holds}
+use Rattle.layout.proofs.HoldsLaws.{holds-long}
+use Rattle.layout.proofs.Reading.{get-timestamp, get-size, get-object, get-lower, get-upper}
+use Rattle.layout.proofs.LentBlockLaws.{lent-object, lent-sorted}
 
 -- what the lookup gives of object i at the replica's own timestamp: "so does the lookup below it, which a load from the committed table uses from now on"
 abbrev pub looked_up : Limits → List ℕ → ℕ → Version

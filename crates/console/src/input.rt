@@ -1,6 +1,7 @@
-// Standard input, by blocks.
-ghost use Rattle.std.specs.Prelude.{◌≡◌, length, IfOk};
-ghost use Rattle.console.specs.Input.{Within};
+// Input, by blocks.
+ghost use Rattle.std.specs.Prelude.{◌≡◌, ℕ, ◌-◌, ◌<◌, List, ◌++◌, true, length, IfOk};
+ghost use Rattle.std.specs.Io.KnownBytes.{Consumes, IsAtEnd};
+ghost use Rattle.console.specs.Input.{Within, unused};
 
 use std::io;
 use std::io::Read;
@@ -29,7 +30,11 @@ impl Input {
 // Moves the unused bytes to the buffer's start and reads once behind them. Nothing read: the input has ended.
 pub fn more<R: Read>(reader: &mut R, buffer: &mut [u8], input: Input) -> io::Result<Input>
     requires { Within input (length buffer.old) }
-    ensures { IfOk result (λ i. Within i (length buffer.new)) }
+    ensures within { IfOk result (λ i. Within i (length buffer.new)) }
+    ensures bytes { IfOk result (λ i. (read : List ℕ) × Consumes (R.remaining reader.old) (R.remaining reader.new) read
+        × (unused i buffer.new ≡ unused input buffer.old ++ read)) }
+    ensures ended { IfOk result (λ i. i.ended ≡ true → input.end - input.from < length buffer.old
+        → IsAtEnd (R.remaining reader.new)) }
 {
     let from = input.from;
     let unread = input.end - from;

@@ -18,11 +18,11 @@ use Rattle.model.specs.Calls.{previewed, preview_places}
 use Rattle.model.specs.Answers.{preview}
 use Rattle.model.specs.Start.{Version}
 use Rattle.model.specs.DryRun.{placed, preview_of}
-use Rattle.model.specs.PreviewLaws.{placed-all, sound-wider, held_after}
+use Rattle.model.proofs.PreviewLaws.{placed-all, sound-wider, held_after}
 use Rattle.model.specs.Interface as interface
 use Rattle.model.specs.Replica.{Replica, newest, opens, install, committed_table, commit}
 use Rattle.layout.specs.Offsets.{Sane, size_at}
-use Rattle.layout.specs.Reading.{get-size}
+use Rattle.layout.proofs.Reading.{get-size}
 use Rattle.final_admission.specs.NextTimestamp.{NextAfter, next-timestamp}
 use Rattle.final_walk.specs.Places.{Inside, Placed, placed-inside, placed-table}
 use Rattle.final_decision.specs.declared.Decision.{Decision}

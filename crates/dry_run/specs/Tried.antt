@@ -7,11 +7,11 @@ use Rattle.model.specs.declared.Preview.{Preview}
 use Rattle.model.specs.Interface as interface
 use Rattle.model.specs.Calls.{dry_run, Query, Answer, Yield, yielded}
 use Rattle.model.specs.Replica.{Pending, Replica, committed_table, validated, result, rework, commit, facts, perform}
-use Rattle.model.specs.Refusals.{dry_run-judged}
+use Rattle.model.proofs.Refusals.{dry_run-judged}
 use Rattle.layout.specs.Layout.{Areas, parse}
 use Rattle.layout.specs.Act.{act}
-use Rattle.layout.specs.Areas.{act-accepted}
-use Rattle.layout.specs.Contract.{met-query}
+use Rattle.layout.proofs.Areas.{act-accepted}
+use Rattle.layout.proofs.ContractLaws.{met-query}
 use Rattle.final_admission.specs.Admission.{Shaped, shaped-passed, Admitted, Turned, admitted_keyed, met_turned}
 use Rattle.final_decision.specs.FoundAt.{Found, passed_found, commit_at}
 use Rattle.dry_run.specs.Foreseen.{shown_of, Foresees}

@@ -3,7 +3,7 @@ use Rattle.std.specs.Prelude.{◌≡◌, refl, List, ℕ, zero, suc, ◌+◌, �
 use Rattle.std.proofs.Common.{◌∙◌, arith, length-set, get_or-set_other}
 use Rattle.cells.specs.Cells.{cells}
 use Rattle.execution.specs.Run.{value_of}
-use Rattle.execution.specs.Listed.{fill_next}
+use Rattle.execution.proofs.Listed.{fill_next}
 use Rattle.final_walk.specs.Places.{table_in}
 
 -- of the first n objects what stands in their places, and past them what the array held

@@ -1,6 +1,5 @@
 -- A run as the interpreter holds it: counts by value, registers and both sets in lent arrays. Assumes nothing.
-use Rattle.std.specs.Prelude.{ℕ, ◌≤◌, ◌≡◌, List, ℤ, pos, length, get_or, set}
-use Rattle.std.proofs.Common.{◌∙◌, length-set}
+use Rattle.std.specs.Prelude.{ℕ, ◌≤◌, ◌≡◌, List, ℤ, pos, length, get_or}
 use Rattle.operation.specs.Body.{listed}
 use Rattle.execution.specs.declared.Counts.{Counts}
 use Rattle.execution.specs.Entries.{Entry, entry}
@@ -26,9 +25,6 @@ run_of_arrays c registers ro rv wo wv =
 pub record Room (os : List ℕ) (vs : List ℤ) : Type 0 where
   pub objects : length os ≡ capacity
   pub values : length vs ≡ capacity
-
-pub room-set : (os : List ℕ) (vs : List ℤ) (i o : ℕ) (v : ℤ) → Room os vs → Room (set os i o) (set vs i v)
-room-set os vs i o v room = record { objects = length-set os i o ∙ room.objects; values = length-set vs i v ∙ room.values }
 
 -- neither set is longer than the counter
 pub record Bounded (c : Counts) : Type 0 where

@@ -1,6 +1,6 @@
 -- The table as the code is lent it: the values in a list, stamps and bounds in cells. Assumes nothing.
-use Rattle.std.specs.Prelude.{ℕ, ◌+◌, ◌*◌, ◌≤◌, ◌<◌, ◌≡◌, Bool, cond, List, ℤ, ltb, get_or}
-use Rattle.std.proofs.Common.{ap, to_z, lt-ltb}
+use Rattle.std.specs.Prelude.{ℕ, ◌+◌, ◌*◌, ◌≤◌, ◌<◌, Bool, cond, List, ℤ, ltb, get_or}
+use Rattle.std.proofs.Common.{to_z}
 use Rattle.std.specs.Int.{w64}
 use Rattle.execution.specs.declared.ObjectsAt.{ObjectsAt}
 use Rattle.execution.specs.Bounds.{Bounds, no_bounds, inside}
@@ -41,6 +41,3 @@ lent_table vs p cs = table_of vs (lent_beside (object_count vs) p cs)
 -- the bounds of n objects lie in so many bytes
 abbrev pub BoundsWithin : ObjectsAt → ℕ → ℕ → Type 0
 BoundsWithin p n bytes = (o : ℕ) → o < n → (bounds_cell p o + 2) * 8 ≤ bytes
-
-pub allowed_at : (n : ℕ) (p : ObjectsAt) (cs : List ℕ) (o : ℕ) → o < n → (v : ℤ) → lent_allowed n p cs o v ≡ inside (object_bounds p cs o) v
-allowed_at n p cs o h v = ap (λ t. inside (cond t (object_bounds p cs o) no_bounds) v) (lt-ltb o n h)

@@ -3,14 +3,6 @@
 pub mod Entries
 pub mod Bounds
 pub mod Run
-pub mod ReadAgreement
-pub mod Counting
-pub mod OtherStamps
 pub mod RunShape
-pub mod BoundsLaws
-pub mod Ended
 pub mod Arrays
-pub mod Listed
 pub mod LentTable
-pub mod TableLaws
-pub mod RunExamples

@@ -13,7 +13,7 @@ ghost use Rattle.execution.specs.Arrays.{capacity, entries};
 
 // How far a run has come: its program counter and outcome, and how many entries its read set and write set have.
 // The read set's objects and values stand in the arrays ro and rv, the write set's in wo and wv.
-#[derive(Drop)]
+#[derive(Clone, Copy)]
 pub struct Counts {
     pub counter: usize,
     pub outcome: usize,
@@ -23,7 +23,7 @@ pub struct Counts {
 
 // Where stamps and bounds of the objects stand in lent cells: object 0's stamp at cell `stamp`, its lower bound at cell `lower` and its upper one behind
 // it, those of each next object `stride` cells on.
-#[derive(Drop)]
+#[derive(Clone, Copy)]
 pub struct ObjectsAt {
     pub stamp: usize,
     pub lower: usize,

@@ -7,7 +7,7 @@ use Rattle.arith.specs.declared.Checked.TheVariants.{Value, Overflow}
 use Rattle.operation.specs.Body.{listed}
 use Rattle.execution.specs.declared.Counts.{Counts}
 use Rattle.execution.specs.Run.{Table, Stop, overflowed, outside, outcome_of, get, put, go, halt, sum, apply}
-use Rattle.execution.specs.RunShape.{update-absent}
+use Rattle.execution.proofs.RunShapeLaws.{update-absent}
 use Rattle.execution.specs.Arrays.{capacity, entries, run_of_arrays, Room, Bounded}
 use Rattle.execution_effects.specs.Effects.{Found, advanced, stopped, settled}
 use Rattle.execution_effects.specs.SetPlaces.{lookup_absent, lookup-found, update_found, append-last}

@@ -7,14 +7,15 @@ use Rattle.std.proofs.Math.Option.{some}
 use native.Mathlib.Omega.{arith}
 use Rattle.std.proofs.Math.Nat.{sub-zero}
 use Rattle.operation.specs.Body.{size, operation_at, operations}
-use Rattle.operation.specs.BodyLaws.{Valid, length-operations, head_operations}
+use Rattle.operation.specs.BodyLaws.{Valid}
+use Rattle.operation.proofs.BodyLaws.{length-operations, head_operations}
 use Rattle.operation.specs.declared.Operation.{Operation}
 use Rattle.operation.specs.declared.Operation.TheVariants.{Load, Store, Set, Add, Subtract, Skip, Fail, Divide}
 use Rattle.execution.specs.declared.Counts.{Counts}
 use Rattle.execution.specs.Run.{Table, outside, Move, get, put, go, halt, move, Run, start, put_in, stopped, apply, due, is_none, ended, obey, step, steps, whole, counted}
-use Rattle.execution.specs.ReadAgreement.{stay, steps-step, ended-past, enough}
-use Rattle.execution.specs.Counting.{counted-ended}
-use Rattle.execution.specs.RunShape.{stop-least}
+use Rattle.execution.proofs.ReadAgreement.{stay, steps-step, ended-past, enough}
+use Rattle.execution.proofs.Counting.{counted-ended}
+use Rattle.execution.proofs.RunShapeLaws.{stop-least}
 use Rattle.execution.specs.Arrays.{capacity, run_of_arrays, Lent}
 use Rattle.execution_interpreter.specs.Executes.{Executes, InArrays}
 

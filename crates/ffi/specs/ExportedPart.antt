@@ -11,13 +11,13 @@ use Rattle.model.specs.Calls.{find, show_body, Answer, refused, found, body}
 use Rattle.model.specs.Answers.{finding}
 use Rattle.layout.specs.Layout.{Areas, parse, row_of}
 use Rattle.layout.specs.Offsets.{Sane, body_at}
-use Rattle.layout.specs.Bodies.{body-part}
+use Rattle.layout.proofs.Bodies.{body-part}
 use Rattle.layout.specs.Fit.{fit}
 use Rattle.layout.specs.Act.{act}
-use Rattle.layout.specs.Areas.{act-unfit}
+use Rattle.layout.proofs.Areas.{act-unfit}
 use Rattle.queue.specs.Found.{nothing, show_refused, show_found}
 use Rattle.queue.specs.Shown.{part, part_of, Shown}
-use Rattle.layout.specs.Contract.{passed}
+use Rattle.layout.proofs.ContractLaws.{passed}
 
 -- The part is the one that `Shown` names, the contract of `replica::show_body`: (0, 0) where Find refuses. Its bytes are the answer.
 pub record ShownPart (l : Limits) (a : Areas) (c s start length : ℕ) : Type 0 where

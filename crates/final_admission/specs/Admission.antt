@@ -9,15 +9,16 @@ use Rattle.model.specs.declared.OptimisticPosition.{OptimisticPosition}
 use Rattle.model.specs.Lists.{index}
 use Rattle.model.specs.Calls.{Call, final, Answer, refused, clients, last_timestamp, is_key, spent, first_cause, causes, refusal}
 use Rattle.model.specs.Replica.{Pending, Replica, has_key, pending_of, keyed, facts}
-use Rattle.model.specs.ListLaws.{any-map, any-index, pick-index}
+use Rattle.model.proofs.ListLaws.{any-map, any-index, pick-index}
 use Rattle.layout.specs.Layout.{Areas, parse}
 use Rattle.layout.specs.Offsets.{Sane}
 use Rattle.layout.specs.Holds.{Holds}
-use Rattle.layout.specs.Reading.{get-timestamp}
+use Rattle.layout.proofs.Reading.{get-timestamp}
 use Rattle.layout.specs.Fit.{fit}
 use Rattle.layout.specs.Act.{asked}
-use Rattle.layout.specs.Areas.{act-refused}
-use Rattle.layout.specs.Contract.{Met, Passed, passed}
+use Rattle.layout.proofs.Areas.{act-refused}
+use Rattle.layout.specs.Contract.{Met, Passed}
+use Rattle.layout.proofs.ContractLaws.{passed}
 use Rattle.queue.specs.declared.Place.{Place}
 use Rattle.queue.specs.Place.{Located, Spent}
 use Rattle.final_admission.specs.declared.Admission as admissions

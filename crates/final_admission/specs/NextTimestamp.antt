@@ -6,8 +6,9 @@ use Rattle.model.specs.declared.Limits.{Limits}
 use Rattle.model.specs.Calls.{last_timestamp}
 use Rattle.model.specs.Replica.{Replica}
 use Rattle.layout.specs.Offsets.{Sane}
-use Rattle.layout.specs.Holds.{Holds, holds-long}
-use Rattle.layout.specs.Reading.{get-timestamp}
+use Rattle.layout.specs.Holds.{Holds}
+use Rattle.layout.proofs.HoldsLaws.{holds-long}
+use Rattle.layout.proofs.Reading.{get-timestamp}
 
 -- the timestamp in the first cell is not the last one
 pub record Before (b : List ℕ) : Type 0 where

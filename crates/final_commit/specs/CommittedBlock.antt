@@ -4,17 +4,18 @@ use Rattle.std.proofs.Common.{sym, ap, ◌∙◌, subst, arith}
 use Rattle.std.proofs.Math.Option.{Option, some}
 use Rattle.cells.specs.Cells.{cells, uncells}
 use Rattle.cells.specs.CellLaws.{cells-uncells}
-use Rattle.model.specs.ListLaws.{all_keep}
+use Rattle.model.proofs.ListLaws.{all_keep}
 use Rattle.model.specs.Serial.{Version}
 use Rattle.model.specs.Replica.{opens, held, prune, pushed}
 use Rattle.model.specs.Shape.{VersionsShape}
-use Rattle.model.specs.ShapeCheck.{versions-say}
-use Rattle.model.specs.Held.{commit-shape, few}
-use Rattle.model.specs.ShapeParts.{opens-few}
-use Rattle.layout.specs.Printable.{ValueFits, VersionFits, ObjectFits, fits-small}
+use Rattle.model.proofs.ShapeCheckLaws.{versions-say}
+use Rattle.model.proofs.Held.{commit-shape, few}
+use Rattle.model.proofs.ShapeParts.{opens-few}
+use Rattle.layout.specs.Printable.{ValueFits, VersionFits, ObjectFits}
+use Rattle.layout.proofs.PrintableLaws.{fits-small}
 use Rattle.layout.specs.Lawful.{Word}
 use Rattle.versions.specs.Block.{stamps, block_versions, block, block_ok}
-use Rattle.versions.specs.Round.{below-block, ok-block, parsed}
+use Rattle.versions.proofs.Round.{below-block, ok-block, parsed}
 
 -- the versions of an object after a commit that stored this value
 pub pushed-fits : (n s t : ℕ) (rs : List (Option ℕ)) (vs : List Version) (v : ℤ) → length rs ≡ n → t ≡ suc s → Word t → ValueFits v → VersionsShape s (opens rs) vs → ObjectFits n vs → ObjectFits n (prune (opens rs) (pushed t vs (some v)))

@@ -12,25 +12,27 @@ use Rattle.cells.specs.Uncells.{length-uncells}
 use Rattle.arith.specs.Integer.{fits}
 use Rattle.execution.specs.Entries.{Entry, lookup}
 use Rattle.execution.specs.Arrays.{entries}
-use Rattle.execution.specs.ReadAgreement.{both}
+use Rattle.execution.proofs.ReadAgreement.{both}
 use Rattle.execution.specs.RunShape.{Entries, sound}
 use Rattle.model.specs.declared.Limits.{Limits}
-use Rattle.model.specs.ListLaws.{All, all_in}
+use Rattle.model.specs.ListLaws.{All}
+use Rattle.model.proofs.ListLaws.{all_in}
 use Rattle.model.specs.Serial.{Version}
 use Rattle.model.specs.Replica as model
 use Rattle.model.specs.Replica.{Replica, opens, prune, pushed}
-use Rattle.model.specs.VersionLaws.{length-install}
+use Rattle.model.proofs.VersionLaws.{length-install}
 use Rattle.model.specs.Shape.{VersionsShape}
 use Rattle.layout.specs.Layout.{of_reader}
 use Rattle.layout.specs.Lawful.{Word}
 use Rattle.layout.specs.Offsets.{Sane, object_width, versions_width, object_at}
 use Rattle.layout.specs.Printable.{ValueFits, ObjectFits}
-use Rattle.layout.specs.Holds.{Holds, with_objects, holds-long}
-use Rattle.layout.specs.Reading.{object-part}
-use Rattle.layout.specs.Writing.{write-object}
-use Rattle.layout.specs.ObjectBlock.{readers-stamps}
+use Rattle.layout.specs.Holds.{Holds, with_objects}
+use Rattle.layout.proofs.HoldsLaws.{holds-long}
+use Rattle.layout.proofs.Reading.{object-part}
+use Rattle.layout.proofs.Writing.{write-object}
+use Rattle.layout.proofs.ObjectBlock.{readers-stamps}
 use Rattle.versions.specs.Block.{stamps, block_versions, block, block_ok, Lent}
-use Rattle.versions.specs.Round.{length-block}
+use Rattle.versions.proofs.Round.{length-block}
 use Rattle.final_commit.specs.InstalledVersions.{install-none, install-one, install-before, entries_none, entries-end, entry_new, entry-sound}
 use Rattle.final_commit.specs.CommittedBlock.{pushed-fits, lent-versions, lent_ok}
 

@@ -9,14 +9,15 @@ use Rattle.std.proofs.Math.ListN.{set}
 use Rattle.operation.specs.Body.{listed}
 use Rattle.execution.specs.Entries.{Entry, lookup, append}
 use Rattle.execution.specs.Arrays.{nth_entry, entries}
-use Rattle.execution.specs.ReadAgreement.{both}
+use Rattle.execution.proofs.ReadAgreement.{both}
 use Rattle.execution.specs.RunShape.{is_some, distinct, every}
 use Rattle.model.specs.Lists.{mapi}
-use Rattle.model.specs.ListLaws.{All, get_or-mapi, set-mapi}
+use Rattle.model.specs.ListLaws.{All}
+use Rattle.model.proofs.ListLaws.{get_or-mapi, set-mapi}
 use Rattle.model.specs.Serial.{Version}
 use Rattle.model.specs.Replica.{held, prune, pushed, install}
 use Rattle.model.specs.Shape.{VersionsShape}
-use Rattle.model.specs.Tests.{keep_all}
+use Rattle.model.proofs.Tests.{keep_all}
 
 -- ---- versions that are all held
 

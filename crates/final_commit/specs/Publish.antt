@@ -10,8 +10,9 @@ use Rattle.model.specs.ListLaws.{All}
 use Rattle.model.specs.Replica.{Replica, opens}
 use Rattle.model.specs.Shape.{VersionsShape}
 use Rattle.layout.specs.Offsets.{Sane, reader_at, size_at}
-use Rattle.layout.specs.Holds.{Holds, holds-long}
-use Rattle.layout.specs.Reading.{readers-part}
+use Rattle.layout.specs.Holds.{Holds}
+use Rattle.layout.proofs.HoldsLaws.{holds-long}
+use Rattle.layout.proofs.Reading.{readers-part}
 use Rattle.final_commit.specs.Install.{Ready, installed}
 
 -- the local array has room for the readers' cells
@@ -62,10 +63,14 @@ module _ {l : Limits} {b : List ℕ} {t : ℕ} {ws : List Entry} {f n : ℕ} (m 
   pub copy-room : length src ≤ length (take k blanks)
   copy-room = omega (arith, src-length, copy-lent)
 
+  -- they take all the room
+  pub src_whole : take (length src) src ++ drop (length src) (take k blanks) ≡ src
+  src_whole =
+      ap₂ (λ (x y : List ℕ). x ++ y) (take-length src) (drop_of_length-le (take k blanks) {i = length src} (omega (arith, src-length, copy-lent))) ∙ append-nil src
+
   module _ {last : List ℕ} (e : last ≡ take (length src) src ++ drop (length src) (take k blanks)) where
     all : last ≡ src
-    all =
-        e ∙ ap₂ (λ (x y : List ℕ). x ++ y) (take-length src) (drop_of_length-le (take k blanks) {i = length src} (omega (arith, src-length, copy-lent))) ∙ append-nil src
+    all = e ∙ src_whole
 
     copy-length : length last ≡ k
     copy-length = ap length all ∙ src-length

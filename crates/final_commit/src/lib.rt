@@ -56,6 +56,6 @@ pub fn publish<'a>(
     let first = layout::reader_at(l, 0) * 8;
     let end = layout::size_at(l) * 8;
     let size = end - first;
-    bytes::copy(&records[first..end], &mut readers[..size]);
+    readers[..size].copy_from_slice(&records[first..end]);
     install(records, &readers[..size], l, timestamp, wo, wv, count);
 }

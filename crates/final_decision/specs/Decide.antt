@@ -11,7 +11,8 @@ use borrow.Rule.Slice.PartMut.{mid_of}
 use Rattle.cells.specs.Cells.{cells}
 use Rattle.cells.specs.CellLaws.{cells-drop}
 use Rattle.operation.specs.Body.{listed, size, operations, is_well_formed, body_length}
-use Rattle.operation.specs.BodyLaws.{Formed, formed, well_formed}
+use Rattle.operation.specs.BodyLaws.{Formed}
+use Rattle.operation.proofs.BodyLaws.{formed, well_formed}
 use Rattle.execution.specs.declared.Counts.{Counts}
 use Rattle.execution.specs.declared.ObjectsAt.{ObjectsAt}
 use Rattle.execution.specs.Entries.{entry}
@@ -22,21 +23,23 @@ use Rattle.execution.specs.RunShape.{Shaped, every, sound}
 use Rattle.execution_interpreter.specs.declared.Executed.{Executed}
 use Rattle.execution_interpreter.specs.Executes.{InArrays}
 use Rattle.model.specs.declared.Limits.{Limits}
-use Rattle.model.specs.ListLaws.{All, all_in, all-implies}
+use Rattle.model.specs.ListLaws.{All}
+use Rattle.model.proofs.ListLaws.{all_in, all-implies}
 use Rattle.model.specs.Calls.{Transaction}
 use Rattle.model.specs.Serial.{Version}
 use Rattle.model.specs.Replica.{Pending, Replica, opens, committed_table, program, validated, result, rework, pending_of}
-use Rattle.model.specs.Ceiling.{rework-kept}
+use Rattle.model.proofs.Ceiling.{rework-kept}
 use Rattle.model.specs.Shape.{VersionsShape, Shape}
-use Rattle.model.specs.ShapeParts.{pending_part}
+use Rattle.model.proofs.ShapeParts.{pending_part}
 use Rattle.layout.specs.Layout.{body_of}
 use Rattle.layout.specs.Offsets.{Sane, row_at, counter_at, outcome_at, reads_at, entries_at, entry_at, body_width, body_at}
-use Rattle.layout.specs.Holds.{Holds, HoldsBodies, holds-long, bodies-long}
-use Rattle.layout.specs.Reading.{get-size}
-use Rattle.layout.specs.Bodies.{body-part, body-size, body-span}
-use Rattle.layout.specs.Printable.{few_pending}
+use Rattle.layout.specs.Holds.{Holds, HoldsBodies}
+use Rattle.layout.proofs.HoldsLaws.{holds-long, bodies-long}
+use Rattle.layout.proofs.Reading.{get-size}
+use Rattle.layout.proofs.Bodies.{body-part, body-size, body-span}
+use Rattle.layout.proofs.PrintableLaws.{few_pending}
 use Rattle.rows.specs.RowRun.{entry_in, entries_in}
-use Rattle.execution.specs.Listed.{listed_same}
+use Rattle.execution.proofs.Listed.{listed_same}
 use Rattle.committed_table.specs.Committed as committed
 use Rattle.final_commit.specs.Positions.{at, fits-at}
 use Rattle.final_walk.specs.Places.{table_in, Reaching, Placed, matches-same, placed-inside, placed-table}

@@ -2,22 +2,22 @@
 use Rattle.std.specs.Prelude.{◌≡◌, List, ℕ, ◌≤◌, ◌<◌, ℤ, length, get_or}
 use Rattle.std.proofs.Common.{sym, ap, ◌∙◌, subst, arith}
 use Rattle.cells.specs.Cells.{cells}
-use Rattle.operation.specs.BodyLaws.{length-operations}
+use Rattle.operation.proofs.BodyLaws.{length-operations}
 use Rattle.execution.specs.Run.{Table}
 use Rattle.execution.specs.Arrays.{capacity, entries}
-use Rattle.execution.specs.Listed.{length-entries}
+use Rattle.execution.proofs.Listed.{length-entries}
 use Rattle.execution.specs.RunShape.{Shaped, Entries}
 use Rattle.model.specs.declared.Limits.{Limits}
 use Rattle.model.specs.Calls.{Committed, last_timestamp}
 use Rattle.model.specs.Replica.{Pending, Replica, committed_table, program, validated, result, rework, commit}
-use Rattle.model.specs.Ceiling.{rework-most}
+use Rattle.model.proofs.Ceiling.{rework-most}
 use Rattle.model.specs.Shape.{Shape}
-use Rattle.model.specs.ShapeParts.{table_fits, result-shaped}
+use Rattle.model.proofs.ShapeParts.{table_fits, result-shaped}
 use Rattle.layout.specs.Layout.{Areas, parse, body_of}
 use Rattle.layout.specs.Offsets.{Sane, size_at}
 use Rattle.layout.specs.Holds.{Holds, HoldsBodies}
 use Rattle.layout.specs.Contract.{Passed}
-use Rattle.layout.specs.Reading.{get-size}
+use Rattle.layout.proofs.Reading.{get-size}
 use Rattle.committed_table.specs.Committed as committed
 use Rattle.final_commit.specs.Positions.{at}
 use Rattle.final_walk.specs.Places.{Placed}

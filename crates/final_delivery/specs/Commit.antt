@@ -12,21 +12,22 @@ use Rattle.model.specs.declared.Limits.{Limits}
 use Rattle.model.specs.declared.Commit.{Commit}
 use Rattle.model.specs.declared.Delivery as deliveries
 use Rattle.model.specs.Lists.{keep}
-use Rattle.model.specs.ListLaws.{All, all_keep}
+use Rattle.model.specs.ListLaws.{All}
+use Rattle.model.proofs.ListLaws.{all_keep}
 use Rattle.model.specs.Calls.{committed as committed-answer, Committed, Yield, yielded, Transaction, clients}
 use Rattle.model.specs.Answers.{delivery}
 use Rattle.model.specs.Serial.{Version}
 use Rattle.model.specs.Replica as model
 use Rattle.model.specs.Replica.{Pending, Replica, opens, table, program, stays, commit}
-use Rattle.model.specs.VersionLaws.{length-install}
-use Rattle.model.specs.EarlyResults.{walk-sents}
+use Rattle.model.proofs.VersionLaws.{length-install}
+use Rattle.model.proofs.EarlyResultsLaws.{walk-sents}
 use Rattle.model.specs.ShapeRuns.{AllShaped}
-use Rattle.model.specs.ShapeParts.{pending_part, install-versions}
+use Rattle.model.proofs.ShapeParts.{pending_part, install-versions}
 use Rattle.layout.specs.Layout.{body_of}
 use Rattle.layout.specs.Offsets.{Sane, last_at, size_at}
 use Rattle.layout.specs.Holds.{Holds, HoldsBodies, with_timestamp, with_lasts, with_pending}
-use Rattle.layout.specs.Writing.{put-timestamp, put_last}
-use Rattle.layout.specs.Bodies.{same-bodies}
+use Rattle.layout.proofs.Writing.{put-timestamp, put_last}
+use Rattle.layout.proofs.Bodies.{same-bodies}
 use Rattle.final_admission.specs.NextTimestamp.{NextAfter, next-timestamp}
 use Rattle.final_commit.specs.Install.{installed}
 use Rattle.final_commit.specs.Publish.{Few, Publishing, Publishes}

@@ -10,8 +10,8 @@ use Rattle.model.specs.Answers.{delivery}
 use Rattle.model.specs.Replica.{Pending, perform, commit, validated, result, rework, committed_table}
 use Rattle.layout.specs.Layout.{Areas, parse, print}
 use Rattle.layout.specs.Act.{act}
-use Rattle.layout.specs.Areas.{act-accepted}
-use Rattle.layout.specs.Holds.{holds-print}
+use Rattle.layout.proofs.Areas.{act-accepted}
+use Rattle.layout.proofs.HoldsLaws.{holds-print}
 use Rattle.layout.specs.Contract.{Met}
 use Rattle.final_admission.specs.Admission.{Shaped, shaped-passed, Admitted, Turned, admitted_keyed, met_turned}
 use Rattle.final_decision.specs.FoundAt.{Found, passed_found, commit_at}

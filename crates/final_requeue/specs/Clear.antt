@@ -11,11 +11,12 @@ use Rattle.model.specs.Lists.{keep}
 use Rattle.model.specs.Replica.{Pending, Replica, stays}
 use Rattle.layout.specs.Rows.{flat, table, blank}
 use Rattle.layout.specs.Offsets.{Sane, pending_at, row_width, row_at, record_length, body_width, body_at, bodies_length}
-use Rattle.layout.specs.OffsetLaws.{row-span, body-spans}
-use Rattle.layout.specs.Printable.{few_pending}
-use Rattle.layout.specs.Holds.{Holds, HoldsBodies, with_pending, holds-long, bodies-long}
-use Rattle.layout.specs.WritingRows.{replace_rows}
-use Rattle.layout.specs.Bodies.{replace_bodies}
+use Rattle.layout.proofs.OffsetLaws.{row-span, body-spans}
+use Rattle.layout.proofs.PrintableLaws.{few_pending}
+use Rattle.layout.specs.Holds.{Holds, HoldsBodies, with_pending}
+use Rattle.layout.proofs.HoldsLaws.{holds-long, bodies-long}
+use Rattle.layout.proofs.WritingRows.{replace_rows}
+use Rattle.layout.proofs.Bodies.{replace_bodies}
 use Rattle.final_commit.specs.Positions.{Both}
 use Rattle.final_requeue.specs.RunsMoved.{copied}
 use Rattle.final_requeue.specs.Leave.{Paired, Closing}

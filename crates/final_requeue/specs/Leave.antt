@@ -11,10 +11,12 @@ use Rattle.model.specs.Lists.{keep, index}
 use Rattle.model.specs.Replica.{Pending, Replica, pending_of, stays}
 use Rattle.layout.specs.Layout.{of_key, row_of}
 use Rattle.layout.specs.Offsets.{Sane, row_at, record_length, bodies_length}
-use Rattle.layout.specs.Printable.{RowFits, few_pending}
-use Rattle.layout.specs.Holds.{Holds, HoldsBodies, with_pending, holds-long, bodies-long}
-use Rattle.layout.specs.Reading.{get-row}
-use Rattle.queue.specs.Place.{index-most}
+use Rattle.layout.specs.Printable.{RowFits}
+use Rattle.layout.proofs.PrintableLaws.{few_pending}
+use Rattle.layout.specs.Holds.{Holds, HoldsBodies, with_pending}
+use Rattle.layout.proofs.HoldsLaws.{holds-long, bodies-long}
+use Rattle.layout.proofs.Reading.{get-row}
+use Rattle.queue.proofs.PlaceLaws.{index-most}
 use Rattle.final_commit.specs.Positions.{at, fits-at}
 use Rattle.final_requeue.specs.RunsMoved.{Moving, Moves, moved}
 

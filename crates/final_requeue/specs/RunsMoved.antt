@@ -14,18 +14,22 @@ use Rattle.cells.specs.Cells.{splice}
 use Rattle.cells.specs.Splice.{splice-back}
 use Rattle.cells.specs.Uncells.{length-uncells}
 use Rattle.model.specs.declared.Limits.{Limits}
-use Rattle.model.specs.ListLaws.{map-set}
+use Rattle.model.proofs.ListLaws.{map-set}
 use Rattle.model.specs.Replica.{Pending, Replica, pending_of}
 use Rattle.layout.specs.Rows.{table}
-use Rattle.layout.specs.RowLaws.{Uniform, row_read, row_write}
+use Rattle.layout.specs.RowLaws.{Uniform}
+use Rattle.layout.proofs.RowLaws.{row_read, row_write}
 use Rattle.layout.specs.Layout.{row, row_of, body_of, body}
 use Rattle.layout.specs.Offsets.{Sane, row_width, row_at, record_length, body_width, body_at, bodies_length}
-use Rattle.layout.specs.Printable.{RowFits, BodyFits, lawful_body, few_pending}
+use Rattle.layout.specs.Printable.{RowFits, BodyFits}
+use Rattle.layout.proofs.PrintableLaws.{lawful_body, few_pending}
 use Rattle.layout.specs.Field.{sized, uniform}
-use Rattle.layout.specs.Fields.{sized_row, sizes}
-use Rattle.layout.specs.Holds.{Holds, HoldsBodies, with_pending, holds-long, bodies-long}
-use Rattle.layout.specs.Reading.{row-part}
-use Rattle.layout.specs.WritingRows.{write-row}
+use Rattle.layout.proofs.FieldsLaws.{sized_row}
+use Rattle.layout.specs.Fields.{sizes}
+use Rattle.layout.specs.Holds.{Holds, HoldsBodies, with_pending}
+use Rattle.layout.proofs.HoldsLaws.{holds-long, bodies-long}
+use Rattle.layout.proofs.Reading.{row-part}
+use Rattle.layout.proofs.WritingRows.{write-row}
 use Rattle.final_commit.specs.Positions.{at, fits-at, Both}
 
 -- n elements from place i on, copied to place k

@@ -7,18 +7,20 @@ use Rattle.cells.specs.Cells.{cells}
 use Rattle.arith.specs.Integer.{fits, eq_z}
 use Rattle.execution.specs.Entries.{Entry, lookup}
 use Rattle.execution.specs.Run.{Table, matches, over}
-use Rattle.execution.specs.ReadAgreement.{both}
+use Rattle.execution.proofs.ReadAgreement.{both}
 use Rattle.execution.specs.RunShape.{every, sound}
 use Rattle.model.specs.declared.Limits.{Limits}
 use Rattle.model.specs.Serial.{Version}
 use Rattle.model.specs.Replica.{Replica, newest, committed_table}
-use Rattle.model.specs.ListLaws.{All, all_in}
-use Rattle.model.specs.VersionLaws.{newest-one}
+use Rattle.model.specs.ListLaws.{All}
+use Rattle.model.proofs.ListLaws.{all_in}
+use Rattle.model.proofs.VersionLaws.{newest-one}
 use Rattle.layout.specs.Offsets.{Sane, object_width, object_at, value_at}
 use Rattle.layout.specs.Printable.{VersionFits, ObjectFits}
-use Rattle.layout.specs.RowCells.{block-newest}
-use Rattle.layout.specs.Holds.{Holds, holds-long}
-use Rattle.layout.specs.Reading.{get-object}
+use Rattle.layout.proofs.RowCells.{block-newest}
+use Rattle.layout.specs.Holds.{Holds}
+use Rattle.layout.proofs.HoldsLaws.{holds-long}
+use Rattle.layout.proofs.Reading.{get-object}
 
 -- It is compared with what was read, and nothing is stored on it: which values it allows is not asked, nor a stamp.
 abbrev pub table_in : List ℕ → List ℕ → Table

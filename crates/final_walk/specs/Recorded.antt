@@ -14,20 +14,22 @@ use Rattle.arith.specs.Integer.{fits}
 use Rattle.operation.specs.Body.{listed}
 use Rattle.execution.specs.Entries.{Entry, entry, lookup}
 use Rattle.execution.specs.Run.{Table, Run, matches, over}
-use Rattle.execution.specs.ReadAgreement.{both}
+use Rattle.execution.proofs.ReadAgreement.{both}
 use Rattle.execution.specs.RunShape.{sound}
-use Rattle.execution.specs.TableLaws.{all-match, one-differs, drop-next, drop-end, every-at}
+use Rattle.execution.proofs.TableLaws.{all-match, one-differs, drop-next, drop-end, every-at}
 use Rattle.model.specs.declared.Limits.{Limits}
 use Rattle.model.specs.Replica.{Pending, Replica, pending_of}
 use Rattle.layout.specs.Layout.{row, row_of}
 use Rattle.layout.specs.Offsets.{Sane, row_width, row_at, counter_at, outcome_at, reads_at, entries_at, entry_at}
-use Rattle.layout.specs.Printable.{RowFits, few_pending}
-use Rattle.layout.specs.Holds.{Holds, holds-long}
-use Rattle.layout.specs.Reading.{get-row}
-use Rattle.layout.specs.RowCells.{row_reads, row-entries}
+use Rattle.layout.specs.Printable.{RowFits}
+use Rattle.layout.proofs.PrintableLaws.{few_pending}
+use Rattle.layout.specs.Holds.{Holds}
+use Rattle.layout.proofs.HoldsLaws.{holds-long}
+use Rattle.layout.proofs.Reading.{get-row}
+use Rattle.layout.proofs.RowCells.{row_reads, row-entries}
 use Rattle.rows.specs.RowRun.{entry_in, entries_in, run_in}
 use Rattle.rows.specs.Loading.{run-back}
-use Rattle.execution.specs.Listed.{listed_same}
+use Rattle.execution.proofs.Listed.{listed_same}
 use Rattle.final_commit.specs.Positions.{at, fits-at}
 use Rattle.final_walk.specs.Places.{table_in, Inside, Reaching}
 

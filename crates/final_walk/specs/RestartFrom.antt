@@ -6,9 +6,10 @@ use Rattle.cells.specs.Cells.{splice}
 use Rattle.model.specs.declared.Limits.{Limits}
 use Rattle.model.specs.Replica.{Pending, Replica, pending_of, restarted}
 use Rattle.layout.specs.Offsets.{Sane, row_width, row_at, record_length, counter_at}
-use Rattle.layout.specs.Holds.{Holds, Holding, with_pending, holds-long}
-use Rattle.layout.specs.WritingRows.{restart_row}
-use Rattle.layout.specs.Printable.{few_pending}
+use Rattle.layout.specs.Holds.{Holds, Holding, with_pending}
+use Rattle.layout.proofs.HoldsLaws.{holds-long}
+use Rattle.layout.proofs.WritingRows.{restart_row}
+use Rattle.layout.proofs.PrintableLaws.{few_pending}
 
 -- "the first .. and all after it, go back to their start"
 abbrev pub restarted_from : ℕ → List Pending → List Pending

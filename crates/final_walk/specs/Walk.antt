@@ -16,10 +16,12 @@ use Rattle.model.specs.Serial.{Version}
 use Rattle.model.specs.Replica as model
 use Rattle.model.specs.Replica.{Pending, Replica, program, restarted, committed_table}
 use Rattle.model.specs.ShapeRuns.{AllShaped}
-use Rattle.model.specs.ListLaws.{All, all_in}
+use Rattle.model.specs.ListLaws.{All}
+use Rattle.model.proofs.ListLaws.{all_in}
 use Rattle.layout.specs.Offsets.{Sane, row_at, record_length}
-use Rattle.layout.specs.Printable.{few_pending}
-use Rattle.layout.specs.Holds.{Holds, Holding, with_pending, holds-long}
+use Rattle.layout.proofs.PrintableLaws.{few_pending}
+use Rattle.layout.specs.Holds.{Holds, Holding, with_pending}
+use Rattle.layout.proofs.HoldsLaws.{holds-long}
 use Rattle.final_commit.specs.Positions.{at}
 use Rattle.final_walk.specs.Places.{table_in, Inside, Reaching, Placed, Same, over-same, matches-same, placed-inside, placed-table}
 use Rattle.final_walk.specs.Recorded.{reads_from, writes_from, Lying, LaidOver, row-lying, row_reads-from, row-writes_from}

@@ -1,6 +1,3 @@
 -- The definitions and laws of what the host lends, lowest first.
 pub mod Counting
 pub mod HostRestart
-pub mod RestartLaws
-pub mod HostReplica
-pub mod HostExamples

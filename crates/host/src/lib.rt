@@ -1,5 +1,5 @@
 // Thin forms for the cabinet's host, over records that it lends: the counters of a replica, and the pending transactions as a list.
-// Each takes a record apart for a covered function and stores what that returned; every branch stands in a covered function.
+// Each takes a record apart for a function of its numbers and stores what that returned; every branch but the loop's stands in such a function.
 #![tactic(auto)]
 
 ghost use Rattle.std.specs.Prelude.{◌≡◌};
@@ -19,6 +19,7 @@ pub struct Counters {
 }
 
 // The commit timestamp after one delivery; the highest stays.
+#[tactic(auto, unfolding(model::specs::Calls::last_timestamp))]
 fn next_timestamp(timestamp: u32) -> u32
     ensures { result ≡ timestamp_after timestamp }
 {
@@ -29,6 +30,7 @@ fn next_timestamp(timestamp: u32) -> u32
 }
 
 // 0 where a delivery can be counted, 9 at the highest timestamp.
+#[tactic(auto, unfolding(model::specs::Calls::last_timestamp))]
 fn delivery_number(timestamp: u32) -> u32
     ensures { result ≡ number_of_delivery timestamp }
 {
@@ -86,6 +88,7 @@ pub struct PendingTransaction {
 }
 
 // A transaction that is not begun: its key and zeros.
+#[tactic(auto, unfolding(operation::specs::Body::register_count))]
 fn not_begun(client: u32, sequence: u32) -> PendingTransaction
     ensures { result ≡ unbegun client sequence }
 {

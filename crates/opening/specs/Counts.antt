@@ -1,6 +1,6 @@
 -- The numbers that an opening is given, test by test. Assumes nothing.
-use Rattle.std.specs.Prelude.{◌≡◌, ℕ, ◌<◌, ◌≤◌, Bool, true, false, not, ◌||◌, List, length, ℤ, ◌==◌, ◌≢◌}
-use Rattle.std.proofs.Common.{sym, ap, ◌∙◌, eq-eqb, ne_eqb, lt-ltb, le-ltb}
+use Rattle.std.specs.Prelude.{◌≡◌, ℕ, ◌<◌, ◌≤◌, Bool, true, false, not, List, length, ℤ, ◌==◌, ◌≢◌}
+use Rattle.std.proofs.Common.{sym, ap, eq-eqb, ne_eqb, lt-ltb, le-ltb}
 use Rattle.std.proofs.Math.Bool.{or-true}
 use Rattle.model.specs.declared.Limits.{Limits}
 use Rattle.model.specs.Calls.{miscounted}

@@ -5,12 +5,12 @@ use Rattle.std.proofs.Math.Bool.{and-false}
 use Rattle.std.specs.Int.Bits.{or_add_and}
 use Rattle.std.proofs.lemmas.Nat.{and_le_l, and_le_r}
 use Rattle.std.specs.Int.{w64}
-use Rattle.arith.specs.IntegerLaws.{SFits→fits}
+use Rattle.arith.proofs.IntegerLaws.{SFits→fits}
 use Rattle.execution.specs.Bounds.{Bounds, widest, ordered, inside}
-use Rattle.execution.specs.BoundsLaws.{most-not, inside-ordered}
+use Rattle.execution.proofs.BoundsLaws.{most-not, inside-ordered}
 use Rattle.model.specs.Lists.{all₂}
 use Rattle.model.specs.Calls.{bounds_from, starts_inside}
-use Rattle.model.specs.Refusals.{widest-inside}
+use Rattle.model.proofs.Refusals.{widest-inside}
 
 -- ---- one value
 

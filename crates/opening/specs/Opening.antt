@@ -16,19 +16,21 @@ use Rattle.model.specs.declared.Limits.{Limits}
 use Rattle.model.specs.Calls.{by_values, bounds_from}
 use Rattle.model.specs.Start.{Version, start_of}
 use Rattle.model.specs.Replica.{Replica, opened}
-use Rattle.model.specs.ListLaws.{All, all_append, all-mapped}
+use Rattle.model.specs.ListLaws.{All}
+use Rattle.model.proofs.ListLaws.{all_append, all-mapped}
 use Rattle.versions.specs.Block as versions
 use Rattle.versions.specs.Block.{width, object_cells, block}
 use Rattle.layout.specs.Rows.{flat, blank}
-use Rattle.layout.specs.RowLaws.{blanks, drop-blank}
+use Rattle.layout.proofs.RowLaws.{blanks, drop-blank}
 use Rattle.layout.specs.Codec.{bytewise}
 use Rattle.layout.specs.Layout.{object, stored_from, print}
 use Rattle.layout.specs.Offsets.{Sane, object_width, object_at, size_at, record_length, bodies_length}
-use Rattle.layout.specs.OffsetLaws.{object-span}
+use Rattle.layout.proofs.OffsetLaws.{object-span}
 use Rattle.layout.specs.Printable.{ValueFits, BoundsFit, ObjectFits}
-use Rattle.layout.specs.Holds.{Holds, HoldsBodies, holds-print, with_timestamp, with_objects, with_bounds}
-use Rattle.layout.specs.Writing.{put-timestamp, open_objects}
-use Rattle.layout.specs.EmptyAreas.{empty, opened-empty, empty_holds, empty-bodies}
+use Rattle.layout.specs.Holds.{Holds, HoldsBodies, with_timestamp, with_objects, with_bounds}
+use Rattle.layout.proofs.HoldsLaws.{holds-print}
+use Rattle.layout.proofs.Writing.{put-timestamp, open_objects}
+use Rattle.layout.proofs.EmptyAreas.{empty, opened-empty, empty_holds, empty-bodies}
 
 -- areas of the right lengths, whatever they hold, and start values within the limit, with bounds for each
 pub record Lent (l : Limits) (b c : List ℕ) (vs los his : List ℤ) : Type 0 where

@@ -2,4 +2,3 @@ pub mod Body
 pub mod BodyLaws
 pub mod Columns
 pub mod Encode
-pub mod BodyExamples

@@ -24,7 +24,7 @@ fn append(records: &mut [u8], bodies: &mut [u8], l: Limits, count: usize, key: u
     cells::put(records, layout::pending_at(l), next as u64);
     let at = layout::body_at(l, count);
     let end = at + body.len();
-    bytes::copy(body, &mut bodies[at..end]);
+    bodies[at..end].copy_from_slice(body);
 }
 
 // Optimistic delivery: the transaction becomes the last of the pending ones. A refusal writes nothing.

@@ -10,14 +10,14 @@ use Rattle.model.specs.declared.Limits.{Limits}
 use Rattle.model.specs.Lists.{any, pick, index}
 use Rattle.model.specs.Calls.{clients, find, show_body, Answer, refused, found, body, is_key, first_cause, causes, refusal, shown}
 use Rattle.model.specs.Replica.{Pending, facts, perform, has_key, pending_of}
-use Rattle.model.specs.ListLaws.{any-map, any-index, pick-index}
+use Rattle.model.proofs.ListLaws.{any-map, any-index, pick-index}
 use Rattle.layout.specs.Layout.{body_of, Areas, parse}
 use Rattle.layout.specs.Offsets.{Sane, body_at}
 use Rattle.layout.specs.Holds.{HoldsBodies}
-use Rattle.layout.specs.Bodies.{body-size, body-span}
+use Rattle.layout.proofs.Bodies.{body-size, body-span}
 use Rattle.layout.specs.Fit.{fit}
 use Rattle.layout.specs.Act.{act}
-use Rattle.layout.specs.Areas.{act-refused, act-accepted}
+use Rattle.layout.proofs.Areas.{act-refused, act-accepted}
 
 -- stands for a transaction past the last
 abbrev pub nothing : Pending

@@ -6,13 +6,15 @@ use Rattle.std.proofs.Math.ListN.{get_or-map}
 use Rattle.std.specs.Borrow.{Bor}
 use Rattle.model.specs.declared.Limits.{Limits}
 use Rattle.model.specs.Calls.{find, show_body, Observation, Yield, Answer, refused, yielded, found, body}
-use Rattle.model.specs.ListLaws.{all_in}
+use Rattle.model.proofs.ListLaws.{all_in}
 use Rattle.layout.specs.Layout.{body_of, Areas, parse}
 use Rattle.layout.specs.Offsets.{Sane, body_width, body_at}
-use Rattle.layout.specs.Printable.{BodyFits, few_pending}
-use Rattle.layout.specs.OffsetLaws.{body-room}
-use Rattle.layout.specs.Holds.{HoldsBodies, bodies-long}
-use Rattle.layout.specs.Bodies.{body-part, body-span}
+use Rattle.layout.specs.Printable.{BodyFits}
+use Rattle.layout.proofs.PrintableLaws.{few_pending}
+use Rattle.layout.proofs.OffsetLaws.{body-room}
+use Rattle.layout.specs.Holds.{HoldsBodies}
+use Rattle.layout.proofs.HoldsLaws.{bodies-long}
+use Rattle.layout.proofs.Bodies.{body-part, body-span}
 use Rattle.layout.specs.Fit.{fit}
 use Rattle.layout.specs.Act.{act}
 use Rattle.queue.specs.Found.{nothing, Shows, show_refused, show_found}

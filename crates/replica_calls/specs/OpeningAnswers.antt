@@ -12,9 +12,10 @@ use Rattle.model.specs.Replica.{opened, facts}
 use Rattle.layout.specs.Layout.{record_area, body_area, Areas, parse, print, lengths}
 use Rattle.layout.specs.Offsets.{Sane, record_length, bodies_length}
 use Rattle.layout.specs.Fields.{sizes}
-use Rattle.layout.specs.Areas.{act-refused, opening-done, act-open}
-use Rattle.layout.specs.Fit.{right-lengths}
-use Rattle.layout.specs.Contract.{Met, met-unfit}
+use Rattle.layout.proofs.Areas.{act-refused, opening-done, act-open}
+use Rattle.layout.proofs.FitLaws.{right-lengths}
+use Rattle.layout.specs.Contract.{Met}
+use Rattle.layout.proofs.ContractLaws.{met-unfit}
 
 module _ (l : Limits) (n : ℕ) (vs los his : List ℤ) (t : ℕ) (a : Areas) where
   abbrev call : Call

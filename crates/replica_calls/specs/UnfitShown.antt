@@ -7,7 +7,7 @@ use Rattle.model.specs.Calls.{find, show_body, Answer, refused, found, body}
 use Rattle.layout.specs.Layout.{Areas}
 use Rattle.layout.specs.Fit.{fit}
 use Rattle.layout.specs.Act.{act}
-use Rattle.layout.specs.Areas.{act-unfit}
+use Rattle.layout.proofs.Areas.{act-unfit}
 use Rattle.queue.specs.Shown.{part, Shown}
 
 never : (i n : ℕ) → refused 1 ≡ found i n → ⊥

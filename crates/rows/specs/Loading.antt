@@ -11,19 +11,22 @@ use Rattle.cells.specs.Cells.{cells, uncells}
 use Rattle.cells.specs.CellLaws.{cells-uncells}
 use Rattle.cells.specs.Uncells.{length-uncells}
 use Rattle.operation.specs.Body.{register_count, listed}
-use Rattle.operation.specs.BodyLaws.{length-listed}
+use Rattle.operation.proofs.BodyLaws.{length-listed}
 use Rattle.execution.specs.declared.Counts.{Counts}
 use Rattle.execution.specs.Entries.{Entry, entry}
 use Rattle.execution.specs.Run.{register}
-use Rattle.execution.specs.Arrays.{capacity, entries, Room, room-set}
-use Rattle.model.specs.ListLaws.{All, all_join, all_in}
+use Rattle.execution.specs.Arrays.{capacity, entries, Room}
+use Rattle.execution.proofs.ArraysLaws.{room-set}
+use Rattle.model.specs.ListLaws.{All}
+use Rattle.model.proofs.ListLaws.{all_join, all_in}
 use Rattle.layout.specs.Layout.{Row, row}
 use Rattle.layout.specs.Offsets.{counter_at, outcome_at, reads_at, entries_at, entry_at}
-use Rattle.layout.specs.Lawful.{all-below}
-use Rattle.layout.specs.Printable.{ValueFits, EntryFits, RowFits, lawful_row}
-use Rattle.layout.specs.RowCells.{row-register, row_reads, row-entries, row-object, row-value}
+use Rattle.layout.proofs.LawfulLaws.{all-below}
+use Rattle.layout.specs.Printable.{ValueFits, EntryFits, RowFits}
+use Rattle.layout.proofs.PrintableLaws.{lawful_row}
+use Rattle.layout.proofs.RowCells.{row-register, row_reads, row-entries, row-object, row-value}
 use Rattle.rows.specs.RowRun.{entry_in, entries_in, register_in, registers_in, run_in, Readable, Loaded}
-use Rattle.execution.specs.Listed.{listed_same, listed_of, entries-same, fill_next}
+use Rattle.execution.proofs.Listed.{listed_same, listed_of, entries-same, fill_next}
 
 -- ---- the code's stores
 

@@ -16,7 +16,7 @@ use Rattle.cells.specs.BlockMoves.{copy_step, copy_done}
 use Rattle.cells.specs.CellLaws.{uncells-cells}
 use Rattle.cells.specs.Uncells.{uncells-append, uncells-take}
 use Rattle.operation.specs.Body.{register_count}
-use Rattle.operation.specs.BodyLaws.{get_or-listed}
+use Rattle.operation.proofs.BodyLaws.{get_or-listed}
 use Rattle.execution.specs.declared.Counts.{Counts}
 use Rattle.execution.specs.Entries.{Entry}
 use Rattle.execution.specs.Arrays.{nth_entry, entries, run_of_arrays}
@@ -24,9 +24,9 @@ use Rattle.layout.specs.Rows.{flat, table, blank}
 use Rattle.layout.specs.Layout.{Row, row, run}
 use Rattle.layout.specs.Layout as layout
 use Rattle.layout.specs.Offsets.{counter_at, outcome_at, register_at, reads_at, entries_at, entry_at}
-use Rattle.layout.specs.RowCells.{array-cells}
+use Rattle.layout.proofs.RowCells.{array-cells}
 use Rattle.rows.specs.RowRun.{Behind, front, entry_cells, Stored}
-use Rattle.execution.specs.Listed.{length-entries}
+use Rattle.execution.proofs.Listed.{length-entries}
 
 -- ---- entries and their cells
 

@@ -3,7 +3,7 @@ use Rattle.std.specs.Prelude.{◌≡◌, refl, Bool, true, false, not, cond, ◌
 use Rattle.std.proofs.Common.{sym, ap, ◌∙◌, arith, get_or-take, leb-false, eq-eqb, eqb-true, ltb-true, lt-ltb}
 use Rattle.std.proofs.lemmas.Bool.{false≢true, not-true, lt-leb}
 use Rattle.std.proofs.Math.Option.{some}
-use Rattle.execution.specs.ReadAgreement.{both}
+use Rattle.execution.proofs.ReadAgreement.{both}
 use Rattle.execution.specs.Entries.{lookup}
 use Rattle.execution.specs.RunShape.{is_some, distinct, every}
 use Rattle.model.specs.Lists.{any}

@@ -9,11 +9,11 @@ use Rattle.model.specs.Replica.{opens}
 use Rattle.model.specs.Shape.{versions_inside}
 use Rattle.model.specs.ShapeCheck.{versions_shaped}
 use Rattle.versions.specs.Block.{block_versions, stamps, block_of, bounds_at, objects_in, bounds_in, blocks_ok}
-use Rattle.versions.specs.AllBlocks.{blocks-check}
+use Rattle.versions.proofs.AllBlocks.{blocks-check}
 use Rattle.layout.specs.Rows.{chunks}
 use Rattle.layout.specs.Layout.{reader_of, object}
 use Rattle.layout.specs.Offsets.{object_width}
-use Rattle.layout.specs.ObjectBlock.{objects-framed}
+use Rattle.layout.proofs.ObjectBlock.{objects-framed}
 use Rattle.shape_objects.specs.ObjectScan.{below}
 use Rattle.shape.specs.Leaves.{same}
 

@@ -5,7 +5,7 @@ use Rattle.cells.specs.Cells.{cells}
 use Rattle.cells.specs.CellLaws.{cells-drop}
 use Rattle.shape_row.specs.RowScan.{cells_of, place_of}
 use Rattle.shape.specs.AreaScan.{placed_in, finished_in, keyless_in}
-use Rattle.versions.specs.BlockLoops.{less_times}
+use Rattle.versions.proofs.BlockLoops.{less_times}
 use Rattle.shape.specs.RowLoop.{rows_on, rows-no, rows_end}
 
 -- left rows are left, from byte at on, and their bodies from byte from on; finished says whether all before are finished; os and lasts are cells

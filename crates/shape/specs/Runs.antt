@@ -14,19 +14,19 @@ use mir.Val.{to_z, sel}
 use Rattle.cells.specs.Zeros.{zeros}
 use Rattle.arith.specs.Integer.{eq_z}
 use Rattle.operation.specs.Body.{register_count}
-use Rattle.execution.specs.ReadAgreement.{both}
+use Rattle.execution.proofs.ReadAgreement.{both}
 use Rattle.execution.specs.Entries.{Entry}
 use Rattle.execution.specs.Bounds.{Bounds}
 use Rattle.execution.specs.Run.{Run}
 use Rattle.model.specs.Lists.{all}
-use Rattle.model.specs.Tests.{Says, ◌and◌, says-self, says-le, either}
+use Rattle.model.proofs.Tests.{Says, ◌and◌, says-self, says-le, either}
 use Rattle.model.specs.ShapeCheck.{names_shaped, stores_inside, at_start, run_shaped}
-use Rattle.model.specs.ListLaws.{map-take, map-drop}
+use Rattle.model.proofs.ListLaws.{map-take, map-drop}
 use Rattle.layout.specs.Offsets.{entry_at}
 use Rattle.layout.specs.Rows.{chunks}
 use Rattle.layout.specs.RowLaws.{length-chunks}
 use Rattle.layout.specs.Layout.{entry, row}
-use Rattle.layout.specs.UncheckedRows.{row_ok, dec-counter, dec-outcome, dec-registers, dec-reads, dec-writes}
+use Rattle.layout.proofs.UncheckedRows.{row_ok, dec-counter, dec-outcome, dec-registers, dec-reads, dec-writes}
 use Rattle.shape_names.specs.NameScan.{names_in}
 use Rattle.shape_row.specs.RowScan.{counter_in, outcome_in, reads_in, entries_in, stores_in, sets_in, begun_in, run_in}
 use Rattle.shape.specs.Leaves.{same, names-are}

@@ -11,14 +11,14 @@ use Rattle.cells.specs.Zeros.{zeros}
 use Rattle.cells.specs.CellLaws.{length-cells}
 use Rattle.operation.specs.Body.{is_well_formed}
 use Rattle.execution.specs.Bounds.{Bounds, no_bounds, ordered}
-use Rattle.execution.specs.ReadAgreement.{both}
+use Rattle.execution.proofs.ReadAgreement.{both}
 use Rattle.model.specs.declared.Limits.{Limits}
 use Rattle.model.specs.Lists.{all, all₂}
 use Rattle.model.specs.Calls.{Transaction, last_timestamp}
 use Rattle.model.specs.Serial.{Version}
 use Rattle.model.specs.Replica.{Pending, Replica, opens}
 use Rattle.model.specs.EarlyResults.{sents}
-use Rattle.model.specs.Tests.{Says, ◌and◌, says-self}
+use Rattle.model.proofs.Tests.{Says, ◌and◌, says-self}
 use Rattle.model.specs.Shape.{versions_inside, distinct_keys, size_of}
 use Rattle.model.specs.ShapeCheck.{versions_shaped, key_unspent, run_shaped, in_order, shaped}
 use Rattle.versions.specs.Block.{block_versions, block_of, blocks_ok}
@@ -29,9 +29,9 @@ use Rattle.layout.specs.Offsets.{Sane, object_width, object_at, pending_at, row_
 use Rattle.layout.specs.Field.{drop-take}
 use Rattle.layout.specs.Fields.{sizes}
 use Rattle.layout.specs.Unchecked.{chunks-take, size_in, pending_in, blocks_in, laid-is, parsed-timestamp, parsed-lasts, parsed-readers, parsed-objects, parsed-bounds, parsed-pending}
-use Rattle.layout.specs.ObjectBlock.{versions-said, bounds-said}
+use Rattle.layout.proofs.ObjectBlock.{versions-said, bounds-said}
 use Rattle.layout.specs.Fit.{fit}
-use Rattle.layout.specs.Core.{core, fit-core}
+use Rattle.layout.proofs.Core.{core, fit-core}
 use Rattle.shape_objects.specs.ObjectScan.{below, readers_of, lasts_of, objects_of, header_in, objects_in}
 use Rattle.shape.specs.AreaScan.{used_in, pending_part, scan}
 use Rattle.shape.specs.Leaves.{same}

@@ -9,21 +9,22 @@ use Rattle.std.proofs.Math.Dec.{eqb}
 use Rattle.std.proofs.Math.ListN.{length, length-drop}
 use Rattle.cells.specs.Zeros.{zeros}
 use Rattle.operation.specs.Body.{size, body_length, is_well_formed}
-use Rattle.operation.specs.BodyLaws.{formed}
-use Rattle.execution.specs.ReadAgreement.{both}
+use Rattle.operation.proofs.BodyLaws.{formed}
+use Rattle.execution.proofs.ReadAgreement.{both}
 use Rattle.execution.specs.Bounds.{Bounds}
 use Rattle.execution.specs.Run.{Run}
 use Rattle.model.specs.Lists.{any, all}
 use Rattle.model.specs.Calls.{Transaction, is_key}
 use Rattle.model.specs.Replica.{Pending, finished}
 use Rattle.model.specs.EarlyResults.{sents}
-use Rattle.model.specs.Tests.{Says, ◌and◌, says-self, either}
+use Rattle.model.proofs.Tests.{Says, ◌and◌, says-self, either}
 use Rattle.model.specs.Shape.{distinct_keys, size_of}
-use Rattle.model.specs.ShapeRuns.{finished-numbers}
-use Rattle.model.specs.ShapeCheck.{key_unspent, at_start, at_start-says, names_shaped, stores_inside, run_shaped, in_order}
+use Rattle.model.proofs.ShapeRunsLaws.{finished-numbers}
+use Rattle.model.specs.ShapeCheck.{key_unspent, at_start, names_shaped, stores_inside, run_shaped, in_order}
+use Rattle.model.proofs.ShapeCheckLaws.{at_start-says}
 use Rattle.layout.specs.Rows.{chunks}
 use Rattle.layout.specs.Layout.{key_of, row, body, pending_from, all_from}
-use Rattle.layout.specs.UncheckedRows.{dec-key, dec-counter, dec-outcome}
+use Rattle.layout.proofs.UncheckedRows.{dec-key, dec-counter, dec-outcome}
 use Rattle.shape_names.specs.NameScan.{absent}
 use Rattle.shape_row.specs.RowScan.{counter_in, outcome_in, key_in, body_end, body_in, run_in, row_in, cells_of, place_of}
 use Rattle.shape.specs.AreaScan.{next_in, finished_in, rows_in}

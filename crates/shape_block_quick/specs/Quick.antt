@@ -9,14 +9,14 @@ use Rattle.std.proofs.Math.Dec.{leb, ltb}
 use Rattle.std.proofs.Math.ListN.{get_or}
 use Rattle.std.proofs.Math.Seq.{slice}
 use borrow.Author.Tests.{lt-ltb, le-leb, ltb-true, leb-true, leb-false, eq-eqb, eqb-true, eqb-false}
-use Rattle.execution.specs.ReadAgreement.{both}
+use Rattle.execution.proofs.ReadAgreement.{both}
 use Rattle.cells.specs.Cells.{cells}
 use Rattle.cells.specs.Zeros.{zeros}
 use Rattle.model.specs.Lists.{any}
-use Rattle.model.specs.ListLaws.{any-has, or_left, or_right}
+use Rattle.model.proofs.ListLaws.{any-has, or_left, or_right}
 use Rattle.versions.specs.Block.{width, versions_in, block_ok, between, lower, lowest, chain, chained}
-use Rattle.versions.specs.OnePass.{le_or_lt, lowest-le}
-use Rattle.versions.specs.BlockLoops.{ok-none, ok-many, ok-late, ok-used, ok-chain, ok-single, ok_single-no, chain_next, chain-loose, chain-end}
+use Rattle.versions.proofs.OnePass.{le_or_lt, lowest-le}
+use Rattle.versions.proofs.BlockLoops.{ok-none, ok-many, ok-late, ok-used, ok-chain, ok-single, ok_single-no, chain_next, chain-loose, chain-end}
 use Rattle.shape_readers.specs.OpenReaders.{Open, Known, open_in}
 
 -- ---- what contracts say

@@ -7,11 +7,11 @@ use native.Mathlib.Omega.{arith}
 use Rattle.std.specs.Int.{w64}
 use borrow.Author.Tests.{le-ltb, lt-ltb, le-leb, lt-leb, leb-true}
 use Rattle.execution.specs.Bounds.{Bounds, ordered, inside}
-use Rattle.execution.specs.ReadAgreement.{both}
+use Rattle.execution.proofs.ReadAgreement.{both}
 use Rattle.model.specs.Shape.{versions_inside}
 use Rattle.versions.specs.Block.{versions_in, block_versions}
-use Rattle.versions.specs.OnePass.{le_or_lt}
-use Rattle.versions.specs.BlockLoops.{versions-step}
+use Rattle.versions.proofs.OnePass.{le_or_lt}
+use Rattle.versions.proofs.BlockLoops.{versions-step}
 
 -- the bounds whose bits these are
 abbrev pub bounds_of : ℕ → ℕ → Bounds

@@ -8,7 +8,7 @@ use native.Mathlib.Omega.{arith}
 use Rattle.std.proofs.Math.ListN.{get_or}
 use Rattle.operation.specs.Body.{each}
 use Rattle.layout.specs.Rows.{chunks}
-use Rattle.model.specs.ListLaws.{eqb-sym}
+use Rattle.model.proofs.ListLaws.{eqb-sym}
 use Rattle.shape_names.specs.NameScan.{absent}
 use Rattle.shape_names.specs.NameTests.{absent-next}
 use Rattle.shape_keys.specs.Keys.{lone_in}

@@ -5,7 +5,7 @@ use Rattle.std.proofs.Math.Bool.{true}
 use Rattle.std.proofs.Math.ListN.{length-set}
 use Rattle.std.proofs.lemmas.Bool.{eqb-false}
 use Rattle.operation.specs.Body.{each}
-use Rattle.operation.specs.Columns.{stops}
+use Rattle.operation.proofs.ColumnsLaws.{stops}
 use Rattle.layout.specs.Rows.{chunks}
 use Rattle.shape_names.specs.NameScan.{absent}
 use Rattle.shape_keys.specs.Keys.{mark, lone_in}

@@ -10,9 +10,10 @@ use Rattle.std.proofs.lemmas.Bool.{lt-leb}
 use Rattle.cells.specs.Cells.{cells}
 use Rattle.cells.specs.CellLaws.{cells-drop}
 use Rattle.model.specs.Lists.{any, index}
-use Rattle.model.specs.ListLaws.{any-index, eqb-sym}
+use Rattle.model.proofs.ListLaws.{any-index, eqb-sym}
 use Rattle.layout.specs.Rows.{chunks}
-use Rattle.layout.specs.RowKeys.{keys, length-keys}
+use Rattle.layout.specs.RowKeys.{keys}
+use Rattle.layout.proofs.RowKeysLaws.{length-keys}
 use Rattle.shape_names.specs.NameScan.{absent, names_in}
 
 -- ---- blocks that do not begin with a key

@@ -13,10 +13,10 @@ use Rattle.cells.specs.CellLaws.{cells_rest}
 use Rattle.cells.specs.Zeros.{zeros}
 use Rattle.operation.specs.declared.Decoded.TheVariants.{WellFormed, Malformed}
 use Rattle.operation.specs.Body.{size, is_well_formed, decoded}
-use Rattle.operation.specs.BodyLaws.{formed, taken, refused}
+use Rattle.operation.proofs.BodyLaws.{formed, taken, refused}
 use Rattle.execution.specs.Bounds.{inside}
 use Rattle.execution.specs.LentTable.{cell_bounds}
-use Rattle.execution.specs.ReadAgreement.{both}
+use Rattle.execution.proofs.ReadAgreement.{both}
 use Rattle.model.specs.Calls.{clients}
 use Rattle.layout.specs.Offsets.{entry_at}
 use Rattle.layout.specs.Rows.{chunks}

@@ -6,7 +6,7 @@ use Rattle.std.proofs.Common.{sym, ◌∙◌, true≢false, arith, leb-true}
 use Rattle.std.proofs.Math.Path.{ap}
 use Rattle.cells.specs.Cells.{cells}
 use Rattle.cells.specs.Zeros.{zeros}
-use Rattle.execution.specs.ReadAgreement.{both}
+use Rattle.execution.proofs.ReadAgreement.{both}
 use Rattle.model.specs.ShapeCheck.{versions_shaped}
 use Rattle.versions.specs.Block.{width, versions_in, block_versions, stamps, block_of, bounds_at, framed, block_ok, bounds_ok, object_ok, lowest}
 use Rattle.shape_readers.specs.OpenReaders.{Known}

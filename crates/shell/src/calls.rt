@@ -115,7 +115,7 @@ fn body_bytes(word: &[u8], body: &mut [u8]) -> Digits {
     if word.len() == 0 {
         return Digits::Malformed;
     }
-    if check::same(word, b"-") {
+    if word == b"-".as_slice() {
         return Digits::Bytes(0);
     }
     hexadecimal::parse(word, body)

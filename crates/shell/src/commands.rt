@@ -6,7 +6,7 @@ use console::faults::Fault;
 use text::line_words;
 
 // How many bytes of each area later calls are lent, at most.
-#[derive(Drop)]
+#[derive(Clone, Copy)]
 pub struct Lent {
     pub records: usize,
     pub bodies: usize,

@@ -1,5 +1,5 @@
 // The program's loop: a turn answers a line, or reads a block.
-ghost use Rattle.std.specs.Prelude.{◌≡◌, length};
+ghost use Rattle.std.specs.Prelude.{◌≡◌, length, IfOk};
 ghost use Rattle.console.specs.Input.{Within};
 
 use crate::commands;
@@ -7,6 +7,9 @@ use crate::commands::{Answer, Lent};
 use console::faults::Fault;
 use console::input::Input;
 use console::{faults, input, output};
+use memchr::memchr;
+use std::io;
+use std::io::{Read, Write};
 use text::{buffer, line_words, numerals};
 
 #[derive(Drop)]
@@ -96,132 +99,162 @@ fn is_silent(line: &[u8]) -> bool {
 }
 
 // Answers a line that holds a command.
-fn command(
+fn command<W: Write>(
+    writer: &mut W,
     records: &mut [u8],
     bodies: &mut [u8],
     line: &[u8],
     out: &mut [u8],
     lines: u64,
     lent: Lent,
-) -> Progress {
+) -> io::Result<Progress> {
     match commands::run(records, bodies, lent, line, out) {
-        Answer::Line(n) => Progress {
-            lines,
-            lent,
-            long: false,
-            going: output::write_line(out, n),
-        },
+        Answer::Line(n) => {
+            output::write_line(writer, out, n)?;
+            Ok(Progress {
+                lines,
+                lent,
+                long: false,
+                going: true,
+            })
+        }
         Answer::Lend(later) => {
             let n = numerals::put_unsigned(out, 0, 0);
-            Progress {
+            output::write_line(writer, out, n)?;
+            Ok(Progress {
                 lines,
                 lent: later,
                 long: false,
-                going: output::write_line(out, n),
-            }
+                going: true,
+            })
         }
-        Answer::Wrong(fault) => error(out, lines, lent, fault),
+        Answer::Wrong(fault) => error(writer, out, lines, lent, fault),
     }
 }
 
 // Answers a wrong line by what is wrong with it.
-fn error(out: &mut [u8], lines: u64, lent: Lent, fault: Fault) -> Progress {
+fn error<W: Write>(
+    writer: &mut W,
+    out: &mut [u8],
+    lines: u64,
+    lent: Lent,
+    fault: Fault,
+) -> io::Result<Progress> {
     let n = faults::put_error(out, lines, fault);
-    Progress {
+    output::write_line(writer, out, n)?;
+    Ok(Progress {
         lines,
         lent,
         long: false,
-        going: output::write_line(out, n),
-    }
+        going: true,
+    })
 }
 
 // Answers one line, given without its newline.
-fn answer(
+fn answer<W: Write>(
+    writer: &mut W,
     records: &mut [u8],
     bodies: &mut [u8],
     line: &[u8],
     out: &mut [u8],
     p: Progress,
-) -> Progress {
+) -> io::Result<Progress> {
     let lines = std::num::wrapping_add_u64(p.lines, 1);
     let lent = p.lent;
     if p.long {
-        return error(out, lines, lent, Fault::LongLine);
+        return error(writer, out, lines, lent, Fault::LongLine);
     }
     let text = buffer::front(line, text_end(line));
     if is_silent(text) {
-        return Progress {
+        return Ok(Progress {
             lines,
             lent,
             long: false,
             going: true,
-        };
+        });
     }
-    command(records, bodies, text, out, lines, lent)
+    command(writer, records, bodies, text, out, lines, lent)
 }
 
 // The input has ended: what is left is a line without a newline, or nothing.
-fn last(
+fn last<W: Write>(
+    writer: &mut W,
     records: &mut [u8],
     bodies: &mut [u8],
     line: &[u8],
     out: &mut [u8],
     p: Progress,
-) -> Progress {
+) -> io::Result<Progress> {
     if p.long || 0 < line.len() {
-        let after = answer(records, bodies, line, out, p);
-        return after.stopped();
+        let after = answer(writer, records, bodies, line, out, p)?;
+        return Ok(after.stopped());
     }
-    p.stopped()
+    Ok(p.stopped())
 }
 
 // Answers the next line that is in the buffer whole, or reads a block.
-fn turn(records: &mut [u8], bodies: &mut [u8], buffer: &mut [u8], out: &mut [u8], s: State) -> State
+fn turn<R: Read, W: Write>(
+    reader: &mut R,
+    writer: &mut W,
+    records: &mut [u8],
+    bodies: &mut [u8],
+    buffer: &mut [u8],
+    out: &mut [u8],
+    s: State,
+) -> io::Result<State>
     requires { Within s.input (length buffer.old) }
-    ensures { Within result.input (length buffer.new) }
+    ensures { IfOk result (λ later. Within later.input (length buffer.new)) }
 {
     let input = s.input;
     let progress = s.progress;
     let from = input.from;
     let end = input.end;
-    let stop = bytes::scan::find(buffer, from, end, b'\n');
-    if stop < end {
-        let after = answer(records, bodies, &buffer[from..stop], out, progress);
-        return State {
+    if let Some(length) = memchr(b'\n', &buffer[from..end]) {
+        let stop = from + length;
+        let after = answer(writer, records, bodies, &buffer[from..stop], out, progress)?;
+        return Ok(State {
             input: input.behind(stop + 1),
             progress: after,
-        };
+        });
     }
     if input.ended {
-        let after = last(records, bodies, &buffer[from..end], out, progress);
-        return State {
+        let after = last(writer, records, bodies, &buffer[from..end], out, progress)?;
+        return Ok(State {
             input,
             progress: after,
-        };
+        });
     }
     if end - from == buffer.len() {
         // one line fills the buffer: it is passed over, and its end will be answered with an error
-        return State {
+        return Ok(State {
             input: input.behind(end),
             progress: progress.passing(),
-        };
+        });
     }
-    let more = input::more(buffer, input);
-    State {
+    let more = input::more(reader, buffer, input)?;
+    Ok(State {
         input: more,
         progress,
-    }
+    })
 }
 
 // A proved loop has to end, and nothing says that an input does: the turns are counted down from a number that no run uses up.
-pub fn run(records: &mut [u8], bodies: &mut [u8], buffer: &mut [u8], out: &mut [u8]) {
+pub fn run<R: Read, W: Write>(
+    reader: &mut R,
+    writer: &mut W,
+    records: &mut [u8],
+    bodies: &mut [u8],
+    buffer: &mut [u8],
+    out: &mut [u8],
+) -> io::Result<()> {
     let mut s = State::new();
     let mut turns = u64::MAX;
     while 0 < turns {
-        s = turn(records, bodies, buffer, out, s);
+        s = turn(reader, writer, records, bodies, buffer, out, s)?;
         if !s.progress.going {
-            return;
+            return Ok(());
         }
         turns -= 1;
     }
+    Ok(())
 }

@@ -13,20 +13,21 @@ use Rattle.model.specs.declared.Limits.{Limits}
 use Rattle.model.specs.Calls.{Call, Query, Yield, open_reader, read, close_reader, Answer, refused, yielded, done, version, causes, refusal, judged, last_timestamp}
 use Rattle.model.specs.Serial.{Version, is_some}
 use Rattle.model.specs.Lists.{any}
-use Rattle.model.specs.Held.{open_shape}
+use Rattle.model.proofs.Held.{open_shape}
 use Rattle.model.specs.Replica.{Replica, opens, as_of, view, facts, perform, call}
-use Rattle.model.specs.Queries.{query-same}
+use Rattle.model.proofs.Queries.{query-same}
 use Rattle.model.specs.Shape.{Shape, VersionsShape}
-use Rattle.model.specs.ListLaws.{All, all_in, all-implies}
-use Rattle.model.specs.VersionLaws.{none-later, as_of-one}
+use Rattle.model.specs.ListLaws.{All}
+use Rattle.model.proofs.ListLaws.{all_in, all-implies}
+use Rattle.model.proofs.VersionLaws.{none-later, as_of-one}
 use Rattle.layout.specs.Layout.{of_reader, body_of}
 use Rattle.layout.specs.Offsets.{Sane, reader_at, versions_width, object_at}
 use Rattle.layout.specs.Holds.{Holds, with_readers}
-use Rattle.layout.specs.Reading.{get-timestamp, get-reader}
-use Rattle.layout.specs.Writing.{put-reader}
+use Rattle.layout.proofs.Reading.{get-timestamp, get-reader}
+use Rattle.layout.proofs.Writing.{put-reader}
 use Rattle.layout.specs.Printable.{ReaderFits}
 use Rattle.versions.specs.Block.{seen_from, SortedBlock}
-use Rattle.layout.specs.LentBlock.{lent-object, lent-sorted}
+use Rattle.layout.proofs.LentBlockLaws.{lent-object, lent-sorted}
 use Rattle.layout.specs.Contract.{Answered}
 use Rattle.snapshots.specs.ClosePruning.{Pruned}
 

@@ -1,5 +1,5 @@
 -- The objects' blocks of a record area, lent to be pruned. Assumes nothing.
-use Rattle.std.specs.Prelude.{◌≡◌, refl, List, [], ◌∷◌, ◌++◌, map, ℕ, suc, ◌+◌, ◌*◌, ◌^◌, ◌<◌, ◌-◌, length, take, drop, get_or}
+use Rattle.std.specs.Prelude.{◌≡◌, refl, List, [], ◌∷◌, ◌++◌, map, ℕ, suc, ◌*◌, ◌^◌, ◌<◌, ◌-◌, length, take, drop, get_or}
 use Rattle.std.proofs.Common.{sym, ap, ap₂, ◌∙◌, append-nil, arith, drop_of_length-le, take_all}
 use Rattle.std.proofs.lemmas.List.{length-map}
 use borrow.Rule.Slice.PartMut.{mid_of, put_mid}
@@ -10,17 +10,19 @@ use Rattle.model.specs.declared.Limits.{Limits}
 use Rattle.model.specs.Serial.{Version}
 use Rattle.model.specs.Replica.{Replica, opens, held, prune}
 use Rattle.model.specs.Shape.{VersionsShape}
-use Rattle.model.specs.ListLaws.{All, all_keep, all-implies, all-mapped, length-keep}
+use Rattle.model.specs.ListLaws.{All}
+use Rattle.model.proofs.ListLaws.{all_keep, all-implies, all-mapped, length-keep}
 use Rattle.layout.specs.Rows.{flat}
 use Rattle.layout.specs.Codec.{bytewise}
 use Rattle.layout.specs.Layout.{of_reader, Stored, object, stored_from, stored_of}
 use Rattle.layout.specs.Offsets.{Sane, reader_at, object_width, object_at, size_at}
-use Rattle.layout.specs.Printable.{VersionFits, ObjectFits, StoredFits, length-stored, stored-fit, fits-small}
-use Rattle.layout.specs.RoundTrips.{versions-back}
+use Rattle.layout.specs.Printable.{VersionFits, ObjectFits, StoredFits}
+use Rattle.layout.proofs.PrintableLaws.{length-stored, stored-fit, fits-small}
+use Rattle.layout.proofs.RoundTrips.{versions-back}
 use Rattle.layout.specs.Holds.{Holds}
-use Rattle.layout.specs.Reading.{objects-part, readers-part}
-use Rattle.layout.specs.Writing.{write-objects}
-use Rattle.layout.specs.ObjectBlock.{readers-stamps}
+use Rattle.layout.proofs.Reading.{objects-part, readers-part}
+use Rattle.layout.proofs.Writing.{write-objects}
+use Rattle.layout.proofs.ObjectBlock.{readers-stamps}
 use Rattle.versions.specs.Block.{stamps}
 use Rattle.versions_close.specs.Closing as closing
 use Rattle.versions_close.specs.Closing.{AllChecked}

@@ -63,7 +63,7 @@ fn prune(records: &mut [u8], l: Limits, cell: u64, snapshots: &mut [u8])
     let readers = layout::reader_at(l, 0) * 8;
     let size = layout::size_at(l);
     let last = size * 8;
-    bytes::copy(&records[readers..last], snapshots);
+    snapshots.copy_from_slice(&records[readers..last]);
     let n = cells::get(records, size) as usize;
     let first = layout::object_at(l, 0) * 8;
     let end = layout::object_at(l, n) * 8;

@@ -8,18 +8,21 @@ use Rattle.model.specs.declared.Limits.{Limits}
 use Rattle.model.specs.Lists.{count}
 use Rattle.model.specs.Calls.{Transaction, execute, executed, refused, refusal, causes, most_work}
 use Rattle.model.specs.Replica.{Pending, Replica, committed_table, program, finished, advance, used, work_count, perform}
-use Rattle.model.specs.ListLaws.{count-few}
-use Rattle.model.specs.EarlyResults.{sents, worked-sents}
+use Rattle.model.proofs.ListLaws.{count-few}
+use Rattle.model.specs.EarlyResults.{sents}
+use Rattle.model.proofs.EarlyResultsLaws.{worked-sents}
 use Rattle.model.specs.Shape.{Shape}
-use Rattle.model.specs.ShapeParts.{same_length}
+use Rattle.model.proofs.ShapeParts.{same_length}
 use Rattle.layout.specs.Layout.{body_of, parse, print}
 use Rattle.layout.specs.Offsets.{Sane}
-use Rattle.layout.specs.Holds.{Holds, HoldsBodies, holds-print, holds-long}
-use Rattle.layout.specs.Reading.{get-size}
-use Rattle.layout.specs.Bodies.{same-bodies}
-use Rattle.layout.specs.Fit.{fit, shape-fits, fit-holds, fit-bodies, fit-shape}
+use Rattle.layout.specs.Holds.{Holds, HoldsBodies}
+use Rattle.layout.proofs.HoldsLaws.{holds-print, holds-long}
+use Rattle.layout.proofs.Reading.{get-size}
+use Rattle.layout.proofs.Bodies.{same-bodies}
+use Rattle.layout.specs.Fit.{fit}
+use Rattle.layout.proofs.FitLaws.{shape-fits, fit-holds, fit-bodies, fit-shape}
 use Rattle.layout.specs.Act.{act}
-use Rattle.layout.specs.Areas.{act-refused, act-accepted}
+use Rattle.layout.proofs.Areas.{act-refused, act-accepted}
 use Rattle.committed_table.specs.Committed.{Laid, BlocksSorted, Committed, current, blocks-sorted, committed-count, committed-back}
 use Rattle.speculative_execution.specs.Passing.{counted-most, all_worked, after_work, Worked, accepted, new-shape}
 use Rattle.speculative_execution.specs.LentAreas.{Begun}

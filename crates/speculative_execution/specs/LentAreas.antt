@@ -3,7 +3,7 @@ use Rattle.std.specs.Prelude.{◌≡◌, refl, true, false, List, ℕ, ◌+◌, 
 use Rattle.std.proofs.Common.{sym, ap, ap₂, ◌∙◌, subst, arith, mul-le-mul_right, suc-mul}
 use borrow.Rule.Slice.PartMut.{mid_of, put_mid}
 use Rattle.cells.specs.Cells.{cells, uncells, Below}
-use Rattle.operation.specs.Body.{size, body_length}
+use Rattle.operation.specs.Body.{body_length}
 use Rattle.execution.specs.declared.ObjectsAt.{ObjectsAt}
 use Rattle.execution.specs.Run.{Beside, beside, object_count}
 use Rattle.execution.specs.LentTable.{lent_beside, BoundsWithin}
@@ -14,12 +14,14 @@ use Rattle.model.specs.Replica.{Pending, Replica, committed_table}
 use Rattle.model.specs.Shape.{Shape}
 use Rattle.layout.specs.Layout.{row, row_of, body_of, parse}
 use Rattle.layout.specs.Offsets.{Sane, pending_at, row_width, row_at, body_width, body_at}
-use Rattle.layout.specs.OffsetLaws.{one-row_span}
-use Rattle.layout.specs.Holds.{HoldsBodies, bodies-long}
-use Rattle.layout.specs.Reading.{get-pending}
-use Rattle.layout.specs.Bodies.{body-part, body-size, body-span}
-use Rattle.layout.specs.Fit.{fit, fit-holds, fit-bodies, fit-shape}
-use Rattle.layout.specs.Printable.{few_pending}
+use Rattle.layout.proofs.OffsetLaws.{one-row_span}
+use Rattle.layout.specs.Holds.{HoldsBodies}
+use Rattle.layout.proofs.HoldsLaws.{bodies-long}
+use Rattle.layout.proofs.Reading.{get-pending}
+use Rattle.layout.proofs.Bodies.{body-part, body-size, body-span}
+use Rattle.layout.specs.Fit.{fit}
+use Rattle.layout.proofs.FitLaws.{fit-holds, fit-bodies, fit-shape}
+use Rattle.layout.proofs.PrintableLaws.{few_pending}
 use Rattle.committed_table.specs.Committed.{current, objects_place, beside_back, bounds-within}
 use Rattle.speculative_turn.specs.declared.Advanced.{Advanced}
 use Rattle.speculative_turn.specs.Advance.{Ready, Leaves}

@@ -10,7 +10,8 @@ use borrow.Rule.Slice.PartMut.{mid_of, put_mid}
 use Rattle.std.proofs.lemmas.Bool.{lt-leb}
 use Rattle.cells.specs.Cells.{cells, uncells}
 use Rattle.operation.specs.Body.{operations, is_well_formed}
-use Rattle.operation.specs.BodyLaws.{Formed, formed, well_formed}
+use Rattle.operation.specs.BodyLaws.{Formed}
+use Rattle.operation.proofs.BodyLaws.{formed, well_formed}
 use Rattle.operation.specs.declared.Operation.{Operation}
 use Rattle.execution.specs.Run.{Table, beside, table_of, object_count, Run, start, ended, step, steps, counted, over}
 use Rattle.execution.specs.RunShape.{every, sound, Shaped}
@@ -19,20 +20,22 @@ use Rattle.model.specs.declared.Limits.{Limits}
 use Rattle.model.specs.Lists.{count}
 use Rattle.model.specs.Calls.{Transaction, execute, refusal, causes, most_work}
 use Rattle.model.specs.Replica.{Pending, Replica, committed_table, program, finished, advance, used, worked, work_count, pending_of, facts, perform, call}
-use Rattle.model.specs.ListLaws.{all_map, all_drop, all_in, count-join}
-use Rattle.model.specs.EarlyResults.{NotBegun, Ordered, worked-sents}
+use Rattle.model.proofs.ListLaws.{all_map, all_drop, all_in, count-join}
+use Rattle.model.specs.EarlyResults.{NotBegun, Ordered}
+use Rattle.model.proofs.EarlyResultsLaws.{worked-sents}
 use Rattle.model.specs.Shape.{size_of, Shape}
-use Rattle.model.specs.ShapeRuns.{finished-numbers, NonEmpty}
-use Rattle.model.specs.ShapeCheck.{bodies-non_empty}
-use Rattle.model.specs.ShapeParts.{pending_part, same_length}
-use Rattle.model.specs.ShapeKept.{call_shape}
+use Rattle.model.proofs.ShapeRunsLaws.{finished-numbers}
+use Rattle.model.specs.ShapeRuns.{NonEmpty}
+use Rattle.model.proofs.ShapeCheckLaws.{bodies-non_empty}
+use Rattle.model.proofs.ShapeParts.{pending_part, same_length}
+use Rattle.model.proofs.ShapeKept.{call_shape}
 use Rattle.layout.specs.Layout.{row, row_of, body_of}
 use Rattle.layout.specs.Offsets.{Sane, row_width, row_at}
 use Rattle.layout.specs.Printable.{RowFits, BodyFits}
 use Rattle.layout.specs.Holds.{Holds, with_pending}
-use Rattle.layout.specs.Reading.{row-part}
-use Rattle.layout.specs.WritingRows.{write-row}
-use Rattle.layout.specs.Fit.{shape-fits}
+use Rattle.layout.proofs.Reading.{row-part}
+use Rattle.layout.proofs.WritingRows.{write-row}
+use Rattle.layout.proofs.FitLaws.{shape-fits}
 use Rattle.rows.specs.RowRun.{run_in, Readable}
 use Rattle.rows.specs.Loading.{row-run, row-readable}
 use Rattle.speculative_turn.specs.declared.Advanced.{Advanced}

@@ -13,7 +13,7 @@ ghost use Rattle.speculative_execution.specs.LentAreas.{Begun};
 use model::{Execution, Limits};
 
 // What all turns come to: operations carried out, and transactions finished.
-#[derive(Drop)]
+#[derive(Clone, Copy)]
 struct Totals {
     operations: usize,
     finished: usize,

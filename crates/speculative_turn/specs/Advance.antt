@@ -5,10 +5,10 @@ use Rattle.cells.specs.Cells.{cells, uncells}
 use Rattle.cells.specs.Uncells.{length-uncells}
 use Rattle.operation.specs.Body.{register_count, operations, is_well_formed}
 use Rattle.operation.specs.declared.Operation.{Operation}
-use Rattle.operation.specs.BodyLaws.{formed}
+use Rattle.operation.proofs.BodyLaws.{formed}
 use Rattle.execution.specs.declared.Counts.{Counts}
 use Rattle.execution.specs.Run.{Table, Beside, table_of, object_count, Run, is_none, due_at, ended, steps, counted, over}
-use Rattle.execution.specs.ReadAgreement.{stay}
+use Rattle.execution.proofs.ReadAgreement.{stay}
 use Rattle.execution.specs.RunShape.{every, sound}
 use Rattle.execution.specs.Arrays.{capacity, entries, run_of_arrays, Lent}
 use Rattle.execution_interpreter.specs.declared.Executed.{Executed}
@@ -17,7 +17,7 @@ use Rattle.layout.specs.Layout.{Row, row}
 use Rattle.layout.specs.Offsets.{entry_at}
 use Rattle.layout.specs.Printable.{RowFits}
 use Rattle.rows.specs.RowRun.{run_in, Readable, Loaded, Storable, Stored}
-use Rattle.execution.specs.Listed.{length-entries}
+use Rattle.execution.proofs.Listed.{length-entries}
 use Rattle.rows.specs.Loading.{row-run, row-length}
 use Rattle.rows.specs.Storing.{stored_back}
 use Rattle.speculative_turn.specs.declared.Advanced.{Advanced}

@@ -12,7 +12,7 @@ ghost use Rattle.speculative_turn.specs.AreaRow.{area_row, ReadyAt, LeavesAt};
 use execution::ObjectsAt;
 
 // What one transaction's turn comes to.
-#[derive(Drop)]
+#[derive(Clone, Copy)]
 pub struct Advanced {
     // operations carried out
     pub used: usize,

@@ -9,7 +9,7 @@ use Rattle.cells.specs.Cells.{cells}
 use Rattle.cells.specs.CellLaws.{cells-next, cells-end}
 use Rattle.model.specs.Lists.{any}
 use Rattle.versions.specs.Block.{between}
-use Rattle.versions.specs.OnePass.{le_or_lt}
+use Rattle.versions.proofs.OnePass.{le_or_lt}
 
 pub greater_yes : (p x c : ℕ) → x ≤ c → p < x → (s : ℕ) → ltb s x ≡ ltb s p || (ltb s x && leb x c)
 greater_yes p x c h l s = rw (le-leb x c h) (go' (le_or_lt p s) (le_or_lt x s))

@@ -11,7 +11,7 @@ use Rattle.std.proofs.Math.Dec.{ltb}
 use Rattle.std.proofs.Math.ListN.{get_or, drop}
 use Rattle.std.proofs.Math.Seq.{get_or-drop}
 use borrow.Author.Tests.{lt-ltb, le-ltb, le-leb, lt-leb, ltb-true, leb-true}
-use Rattle.execution.specs.ReadAgreement.{both}
+use Rattle.execution.proofs.ReadAgreement.{both}
 use Rattle.cells.specs.Cells.{cells, uncells, Below}
 use Rattle.cells.specs.CellLaws.{cells-below, uncells-cells, length_cells-whole}
 use Rattle.cells.specs.Zeros.{zeros}
@@ -20,9 +20,9 @@ use Rattle.model.specs.Replica.{prune}
 use Rattle.model.specs.Shape.{falling}
 use Rattle.model.specs.ShapeCheck.{versions_shaped}
 use Rattle.versions.specs.Block.{width, version_of, versions_in, block_versions, stamps, block, block_ok, framed, lowest, chain, trim}
-use Rattle.versions.specs.OnePass.{le_or_lt, lowest-le, falls, falling-falls, prune-trim, versions-chain}
-use Rattle.versions.specs.BlockLoops.{versions-step}
-use Rattle.versions.specs.Round.{count-few, unused_zero, ok-framed, ok-versions, block_of-versions, length_block-versions}
+use Rattle.versions.proofs.OnePass.{le_or_lt, lowest-le, falls, falling-falls, prune-trim, versions-chain}
+use Rattle.versions.proofs.BlockLoops.{versions-step}
+use Rattle.versions.proofs.Round.{count-few, unused_zero, ok-framed, ok-versions, block_of-versions, length_block-versions}
 use Rattle.versions_close.specs.Closing.{seen, less_one, Checked, Beside, pruned_block}
 use Rattle.versions_close.specs.Seen.{First, stamp_at, without, first-in, stamp-cells, block-stamp, trim-all, trim-one, seen_step, seen_first}
 use Rattle.versions_close.specs.Dropped.{less_block}

@@ -16,9 +16,9 @@ use Rattle.model.specs.ListLaws.{All}
 use Rattle.model.specs.Replica.{prune}
 use Rattle.model.specs.Serial.{Version}
 use Rattle.model.specs.Shape.{VersionsShape}
-use Rattle.model.specs.ShapeCheck.{versions-say}
+use Rattle.model.proofs.ShapeCheckLaws.{versions-say}
 use Rattle.versions.specs.Block.{width, object_cells, block_versions, stamps, block_of, chunks, block, Small}
-use Rattle.versions.specs.Round.{length-block, below-block, ok-block, parsed}
+use Rattle.versions.proofs.Round.{length-block, below-block, ok-block, parsed}
 use Rattle.versions_close.specs.Closing.{Checked, AllChecked, pruned}
 
 -- ---- definitions

@@ -10,12 +10,12 @@ use Rattle.std.proofs.Math.Dec.{ltb}
 use Rattle.std.proofs.Math.ListN.{get_or}
 use mir.Val.{bool_byte}
 use borrow.Author.Tests.{lt-ltb, le-ltb, le-leb, lt-leb, ltb-true, eqb-true}
-use Rattle.execution.specs.ReadAgreement.{both}
+use Rattle.execution.proofs.ReadAgreement.{both}
 use Rattle.cells.specs.Zeros.{zeros}
 use Rattle.model.specs.Lists.{any}
 use Rattle.model.specs.Serial.{Version}
 use Rattle.versions.specs.Block.{versions_in, block_versions, between, chain, trim}
-use Rattle.versions.specs.OnePass.{le_or_lt, falls}
+use Rattle.versions.proofs.OnePass.{le_or_lt, falls}
 use Rattle.versions_close.specs.Closing.{seen, Beside}
 
 -- ---- not_seen

@@ -17,12 +17,12 @@ use Rattle.cells.specs.BlockMoves.{cells-fill}
 use Rattle.model.specs.Serial.{Version}
 use Rattle.model.specs.Replica.{prune, pushed}
 use Rattle.model.specs.Shape.{falling, VersionsShape}
-use Rattle.model.specs.Held.{few, commit-shape}
-use Rattle.model.specs.Tests.{all_weaker}
+use Rattle.model.proofs.Held.{few, commit-shape}
+use Rattle.model.proofs.Tests.{all_weaker}
 use Rattle.versions.specs.Block.{width, version_of, versions_in, stamps, block_versions, flat, block, between, trim, block_ok}
 use Rattle.versions_push.specs.Trimmed.{trim_cells, filled}
-use Rattle.versions.specs.OnePass.{falling-falls, prune-trim}
-use Rattle.versions.specs.Round.{fit, length-flat, ok-versions}
+use Rattle.versions.proofs.OnePass.{falling-falls, prune-trim}
+use Rattle.versions.proofs.Round.{fit, length-flat, ok-versions}
 
 -- ---- the cells left are those of the versions held
 

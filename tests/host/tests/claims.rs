@@ -22,12 +22,18 @@ fn defines(text: &str, name: &str) -> bool {
     })
 }
 
+/// Does the word name a file of definitions or of theorems? Such a file begins with a capital.
+fn names_a_file(word: &str) -> bool {
+    let behind = word.split_once("/specs/").or_else(|| word.split_once("/proofs/"));
+    behind.is_some_and(|(_, file)| file.starts_with(|c: char| c.is_ascii_uppercase()))
+}
+
 /// What is claimed to stand in a file: the names before it, with commas between them and " of " behind the last.
 fn names_of_file(turns: &[String], at: usize) -> Vec<&str> {
     let mut found = Vec::new();
     let mut joint = " of ";
     let mut at = at;
-    while at >= 2 && turns[at - 1] == joint && !turns[at - 2].contains("/specs/") {
+    while at >= 2 && turns[at - 1] == joint && !names_a_file(&turns[at - 2]) {
         at -= 2;
         found.push(turns[at].as_str());
         joint = ", ";
@@ -35,9 +41,9 @@ fn names_of_file(turns: &[String], at: usize) -> Vec<&str> {
     found
 }
 
-/// The files of definitions that are named, each by its turn.
+/// The files of definitions and of theorems that are named, each by its turn.
 fn files(turns: &[String]) -> Vec<usize> {
-    (1..turns.len()).step_by(2).filter(|&at| turns[at].contains("/specs/") && !turns[at].ends_with('/')).collect()
+    (1..turns.len()).step_by(2).filter(|&at| names_a_file(&turns[at])).collect()
 }
 
 /// Every source of a crate, as one text.

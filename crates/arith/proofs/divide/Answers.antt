@@ -1,7 +1,7 @@
 -- The three steps of `quotient`.
 use Rattle.std.proofs.Common.{rules, w64, FitsSigned, to_z-of_z}
 use Rattle.arith.specs.Integer.{quotient}
-use Rattle.arith.specs.IntegerLaws.{rounded-le}
+use Rattle.arith.proofs.IntegerLaws.{rounded-le}
 use Rattle.arith.proofs.divide.Goals as goal
 
 pub on_side-requires : goal.on_side-requires

@@ -1,6 +1,6 @@
 -- What rounds up has a remainder, so the quotient and one is at most a.
 use Rattle.std.proofs.Common.{arith, sym, ◌∙◌}
-use Rattle.arith.specs.IntegerLaws.{rounded-le}
+use Rattle.arith.proofs.IntegerLaws.{rounded-le}
 use Rattle.arith.proofs.divide_magnitude.Goals as goal
 
 pub overflow_add-result : goal.overflow_add-result

@@ -1,7 +1,7 @@
 -- The test says whether the difference is in the range.
 use Rattle.std.proofs.Common.{◌≡◌, ◌∙◌, true, false, ◌-ℤ◌, to_z-of_z}
 use Rattle.arith.specs.Integer.{fits}
-use Rattle.arith.specs.IntegerLaws.{fits→SFits}
+use Rattle.arith.proofs.IntegerLaws.{fits→SFits}
 use Rattle.arith.proofs.Sums.{value, overflow, subtract_test-low, subtract_test-high}
 use Rattle.arith.proofs.subtract.Goals as goal
 use Rattle.arith.proofs.subtract.Goals.{then-y-gt0, else-y-gt0}

@@ -1,6 +1,6 @@
 -- The counter against the body's first byte, or an early stop.
 use Rattle.std.proofs.Common.{sym}
-use Rattle.execution.specs.Ended.{ended-early, ended-past}
+use Rattle.execution.proofs.Ended.{ended-early, ended-past}
 use Rattle.execution.proofs.is_finished.Goals as goal
 
 pub returns-then-small-counter : goal.returns-then-small-counter

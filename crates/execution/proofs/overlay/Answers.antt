@@ -1,7 +1,7 @@
 -- What Laid says at each step.
 use Rattle.std.proofs.Common.{◌≡◌, subst, ℕ, suc, ◌-◌, arith, rules, w64, pos, get_or, FitsSigned, to_z-of_z}
 use Rattle.execution.specs.Arrays.{nth_entry, entries}
-use Rattle.execution.specs.TableLaws.{Laid, laid_none, in_table, laid_one, laid-all}
+use Rattle.execution.proofs.TableLaws.{Laid, laid_none, in_table, laid_one, laid-all}
 use Rattle.execution.proofs.overlay.Goals as goal
 
 pub loop-i-init : goal.loop-i-init

@@ -1,6 +1,6 @@
 -- The entries from i on are laid over the table.
 use Rattle.execution.specs.Arrays.{nth_entry}
-use Rattle.execution.specs.TableLaws.{Laid}
+use Rattle.execution.proofs.TableLaws.{Laid}
 use Rattle.execution.proofs.overlay.Given as goal
 
 abbrev pub invariant-loop-i : goal.invariant-loop-i

@@ -2,7 +2,7 @@
 use native.Mathlib.Omega.{arith}
 use borrow.Author.Rules.{rules}
 use Rattle.model.specs.Limits.{standard}
-use Rattle.layout.specs.OffsetLaws.{standard-sane}
+use Rattle.layout.proofs.OffsetLaws.{standard-sane}
 use Rattle.ffi.proofs.finding_part.Statement.{statement}
 use Rattle.ffi.proofs.finding_part.Tie as tie
 

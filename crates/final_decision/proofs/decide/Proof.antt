@@ -3,7 +3,7 @@ use mathlib.Core.Path.{◌≡◌, refl}
 use native.Mathlib.Omega.{arith}
 use borrow.Author.Rules.{rules}
 use Rattle.layout.specs.Offsets.{row_at, body_at}
-use Rattle.layout.specs.Holds.{holds-long}
+use Rattle.layout.proofs.HoldsLaws.{holds-long}
 use Rattle.final_decision.specs.Decide.{decided-as, decide_there, body-begins, body-few, body-ends, lent-some, rerunning, decide_lying, decide_reads, writes-few, writes_inside, writes-loaded, decided-validated, decided-again}
 use Rattle.final_decision.proofs.decide.Statement.{statement}
 use Rattle.final_decision.proofs.decide.Tie as tie

@@ -4,7 +4,7 @@ use native.Mathlib.Omega.{arith}
 use lib.ListN.{length}
 use borrow.Author.Rules.{rules}
 use Rattle.layout.specs.Offsets.{record_length}
-use Rattle.layout.specs.Holds.{holds-long}
+use Rattle.layout.proofs.HoldsLaws.{holds-long}
 use Rattle.final_delivery.specs.Commit.{few-clients, marked}
 use Rattle.final_delivery.proofs.mark.Statement.{statement}
 use Rattle.final_delivery.proofs.mark.Tie as tie

@@ -1,6 +1,6 @@
 use Rattle.std.proofs.Common.{◌∙◌, ℕ, ap, sym, arith, get_or}
 use Rattle.cells.specs.Cells.{cells}
-use Rattle.layout.specs.RowKeys.{first_key}
+use Rattle.layout.proofs.RowKeysLaws.{first_key}
 use Rattle.layout.proofs.key_index.Goals as goal
 
 -- the block found begins with the key

@@ -1,7 +1,7 @@
 -- `front-cell` also bounds the sum.
 use Rattle.std.proofs.Common.{arith}
 use Rattle.model.specs.Calls.{clients}
-use Rattle.layout.specs.OffsetLaws.{front-cell}
+use Rattle.layout.proofs.OffsetLaws.{front-cell}
 use Rattle.layout.proofs.last_at.Goals as goal
 
 pub overflow_add-result : goal.overflow_add-result

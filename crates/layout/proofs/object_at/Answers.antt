@@ -1,4 +1,4 @@
-use Rattle.layout.specs.OffsetLaws.{object-cell}
+use Rattle.layout.proofs.OffsetLaws.{object-cell}
 use Rattle.layout.proofs.object_at.Goals as goal
 
 pub returns : goal.returns

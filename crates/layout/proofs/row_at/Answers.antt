@@ -1,4 +1,4 @@
-use Rattle.layout.specs.OffsetLaws.{row-cell}
+use Rattle.layout.proofs.OffsetLaws.{row-cell}
 use Rattle.layout.proofs.row_at.Goals as goal
 
 pub returns : goal.returns

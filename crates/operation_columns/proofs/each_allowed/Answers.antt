@@ -1,7 +1,8 @@
 -- What a turn tests is the rule of its operation, by the one law `tested_at`.
 use Rattle.std.proofs.Common.{◌≤◌, ◌∙◌, refl, sym, arith, add-one}
 use Rattle.operation.specs.Body.{kind_byte, allowed_at, each}
-use Rattle.operation.specs.Columns.{tested, tested_at, no_kind, stops}
+use Rattle.operation.specs.Columns.{tested}
+use Rattle.operation.proofs.ColumnsLaws.{tested_at, no_kind, stops}
 use Rattle.operation_columns.proofs.each_allowed.Goals as goal
 
 pub loop-i-init : goal.loop-i-init

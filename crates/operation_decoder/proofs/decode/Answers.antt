@@ -3,7 +3,7 @@ use Rattle.std.proofs.Common.{◌+◌, ◌*◌, arith, length, le-leb, eq-eqb, n
 use Rattle.std.proofs.Math.Bool.{and-false}
 use Rattle.std.proofs.lemmas.Bool.{lt-leb}
 use Rattle.operation.specs.Body.{size, is_well_formed, decoded}
-use Rattle.operation.specs.Columns.{nothing}
+use Rattle.operation.proofs.ColumnsLaws.{nothing}
 use Rattle.operation_decoder.proofs.decode.Goals as goal
 
 pub returns-then-body-eq0 : goal.returns-then-body-eq0

@@ -2,7 +2,7 @@
 use mathlib.Core.Path.{sym, ◌∙◌}
 use borrow.Author.Rules.{rules}
 use Rattle.model.specs.Calls.{close_reader}
-use Rattle.layout.specs.Contract.{holds-shaped, met-unfit}
+use Rattle.layout.proofs.ContractLaws.{holds-shaped, met-unfit}
 use Rattle.replica_calls.proofs.close_reader.Statement.{statement}
 use Rattle.replica_calls.proofs.close_reader.Tie as tie
 

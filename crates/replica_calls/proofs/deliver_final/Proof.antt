@@ -2,7 +2,7 @@
 use mathlib.Core.Path.{sym, ◌∙◌}
 use borrow.Author.Rules.{rules}
 use Rattle.model.specs.Calls.{final}
-use Rattle.layout.specs.Contract.{met-unfit}
+use Rattle.layout.proofs.ContractLaws.{met-unfit}
 use Rattle.replica_calls.proofs.deliver_final.Statement.{statement}
 use Rattle.replica_calls.proofs.deliver_final.Tie as tie
 

@@ -2,7 +2,7 @@
 use mathlib.Core.Path.{sym, ◌∙◌}
 use borrow.Author.Rules.{rules}
 use Rattle.model.specs.Calls.{dry_run}
-use Rattle.layout.specs.Contract.{met-unfit}
+use Rattle.layout.proofs.ContractLaws.{met-unfit}
 use Rattle.dry_run.specs.Previews.{previews-refused}
 use Rattle.replica_calls.proofs.dry_run.Statement.{statement}
 use Rattle.replica_calls.proofs.dry_run.Tie as tie

@@ -2,7 +2,7 @@
 use mathlib.Core.Path.{sym, ◌∙◌}
 use borrow.Author.Rules.{rules}
 use Rattle.model.specs.Calls.{execute}
-use Rattle.layout.specs.Contract.{met-unfit}
+use Rattle.layout.proofs.ContractLaws.{met-unfit}
 use Rattle.replica_calls.proofs.execute.Statement.{statement}
 use Rattle.replica_calls.proofs.execute.Tie as tie
 

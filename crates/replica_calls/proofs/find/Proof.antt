@@ -1,7 +1,7 @@
 -- `replica_calls::find` meets its contract: where the areas have the shape, `queue::find`, which changes nothing. Assumes nothing.
 use mathlib.Core.Path.{sym, ◌∙◌}
 use Rattle.model.specs.Calls.{find}
-use Rattle.layout.specs.Contract.{met-unfit}
+use Rattle.layout.proofs.ContractLaws.{met-unfit}
 use Rattle.replica_calls.proofs.find.Statement.{statement}
 use Rattle.replica_calls.proofs.find.Tie as tie
 

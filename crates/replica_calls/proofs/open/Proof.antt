@@ -6,7 +6,7 @@ use lib.ListN.{length}
 use borrow.Author.Rules.{rules}
 use borrow.Author.Tests.{not-true, not-false}
 use Rattle.model.specs.Calls.{miscounted}
-use Rattle.model.specs.Refusals.{Counted, counted}
+use Rattle.model.proofs.Refusals.{Counted, counted}
 use Rattle.layout.specs.Offsets.{record_length, bodies_length}
 use Rattle.replica_calls.specs.OpeningAnswers.{wrong-record, wrong-bodies, wrong-counts, start_outside, filled}
 use Rattle.replica_calls.proofs.open.Statement.{statement}

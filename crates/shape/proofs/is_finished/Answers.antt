@@ -1,7 +1,7 @@
 -- What `execution::is_finished` says of the two cells, as numbers.
 use Rattle.std.proofs.Common.{◌||◌, ℕ, ltb, leb, ap₂, ◌∙◌}
 use Rattle.operation.specs.Body.{size}
-use Rattle.execution.specs.Ended.{body_ended}
+use Rattle.execution.proofs.Ended.{body_ended}
 use Rattle.shape.proofs.is_finished.Goals as goal
 
 pub returns : goal.returns

@@ -2,7 +2,7 @@
 use Rattle.std.proofs.Common.{◌≡◌, ℕ, get_or, ap, ◌∙◌, arith, length-take, length-drop, mul-le-mul_right}
 use Rattle.cells.specs.Cells.{cells}
 use Rattle.layout.specs.Offsets.{row_width, body_width}
-use Rattle.layout.specs.OffsetLaws.{blocks-span}
+use Rattle.layout.proofs.OffsetLaws.{blocks-span}
 use Rattle.layout.specs.Unchecked.{size_in}
 use Rattle.shape.specs.PendingParts.{used-here}
 use Rattle.shape.proofs.used_ok.Goals as goal

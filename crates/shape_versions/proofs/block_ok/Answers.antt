@@ -1,7 +1,7 @@
 -- With one version a law for each branch.
 use Rattle.std.proofs.Common.{sym, arith}
 use Rattle.cells.specs.Cells.{cells}
-use Rattle.versions.specs.BlockLoops.{ok-single, ok_single-no}
+use Rattle.versions.proofs.BlockLoops.{ok-single, ok_single-no}
 use Rattle.shape_versions.proofs.block_ok.Goals as goal
 
 pub returns-then-get-low : goal.returns-then-get-low

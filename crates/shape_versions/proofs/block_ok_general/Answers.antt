@@ -1,7 +1,7 @@
 -- A law for each branch.
 use Rattle.std.proofs.Common.{sym, ◌∙◌, arith}
 use Rattle.cells.specs.Cells.{cells}
-use Rattle.versions.specs.BlockLoops.{ok-none, ok-many, ok-late, ok-used, ok-chain}
+use Rattle.versions.proofs.BlockLoops.{ok-none, ok-many, ok-late, ok-used, ok-chain}
 use Rattle.shape_versions.proofs.block_ok_general.Goals as goal
 
 pub returns-then-count-eq0 : goal.returns-then-count-eq0

@@ -1,7 +1,7 @@
 -- One version more, held and not held, and the end: `chain_next`, `chain-loose` and `chain-end`.
 use Rattle.std.proofs.Common.{sym, ◌∙◌, drop, arith}
 use Rattle.cells.specs.Cells.{cells}
-use Rattle.versions.specs.BlockLoops.{chain-loose, chain_next, chain-end}
+use Rattle.versions.proofs.BlockLoops.{chain-loose, chain_next, chain-end}
 use Rattle.shape_versions.proofs.chain_ok.Goals as goal
 
 pub loop-left-preserved : goal.loop-left-preserved

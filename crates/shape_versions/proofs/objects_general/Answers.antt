@@ -2,7 +2,7 @@
 use Rattle.std.proofs.Common.{◌≡◌, ◌+◌, ◌*◌, ◌-◌, sym, ◌∙◌, drop, arith}
 use Rattle.cells.specs.Cells.{cells}
 use Rattle.versions.specs.Block.{object_cells}
-use Rattle.versions.specs.BlockLoops.{less_times, blocks-no, blocks-next, blocks_end}
+use Rattle.versions.proofs.BlockLoops.{less_times, blocks-no, blocks-next, blocks_end}
 use Rattle.shape_versions.proofs.objects_general.Goals as goal
 
 pub loop-left-preserved : goal.loop-left-preserved

@@ -3,9 +3,10 @@ use Rattle.std.proofs.Common.{◌∙◌, sym, refl, ap, ℤ, arith}
 use Rattle.cells.specs.Signed.{told}
 use Rattle.cells.specs.Cells.{cells}
 use Rattle.model.specs.Replica.{as_of}
-use Rattle.model.specs.LookedAt.{seen_index, looked_at-order}
+use Rattle.model.specs.LookedAt.{seen_index}
+use Rattle.model.proofs.LookedAtLaws.{looked_at-order}
 use Rattle.versions.specs.Block.{block_versions}
-use Rattle.versions.specs.BlockLoops.{left-first, left-none, look-here, look-on}
+use Rattle.versions.proofs.BlockLoops.{left-first, left-none, look-here, look-on}
 use Rattle.versions.proofs.lookup.Goals as goal
 
 pub loop-above-init : goal.loop-above-init

@@ -4,7 +4,7 @@ use Rattle.cells.specs.Cells.{cells}
 use Rattle.model.specs.Replica.{as_of}
 use Rattle.model.specs.LookedAt.{seen_index}
 use Rattle.versions.specs.Block.{block_versions}
-use Rattle.versions.specs.BlockLoops.{left}
+use Rattle.versions.proofs.BlockLoops.{left}
 use Rattle.versions.proofs.lookup.Given as goal
 
 abbrev pub invariant-loop-above : goal.invariant-loop-above

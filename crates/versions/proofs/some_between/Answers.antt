@@ -1,7 +1,7 @@
 -- A turn of the loop over the readers, and its end.
 use Rattle.std.proofs.Common.{◌≡◌, ◌∙◌, sym, refl, ◌&&◌, ltb, leb, get_or, arith}
 use Rattle.cells.specs.Cells.{cells}
-use Rattle.versions.specs.BlockLoops.{between-hit, between-miss, between-end}
+use Rattle.versions.proofs.BlockLoops.{between-hit, between-miss, between-end}
 use Rattle.versions.proofs.some_between.Goals as goal
 
 pub loop-i-init : goal.loop-i-init

@@ -1,0 +1,10 @@
+pub mod AgreementLaws
+pub mod CasesOnAreas
+pub mod CeilingOnAreasLaws
+pub mod ContractTraceLaws
+pub mod DryRunOnAreasLaws
+pub mod ExchangeExample
+pub mod ExchangeOnAreasLaws
+pub mod LookupsLaws
+pub mod TraceLaws
+pub mod TwoKinds

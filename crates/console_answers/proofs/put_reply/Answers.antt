@@ -1,0 +1,13 @@
+-- The numbers of the answer are those that the line has.
+use Rattle.std.proofs.Common.{arith}
+use Rattle.model.specs.Calls.{numbers}
+use Rattle.console_answers.specs.Output.{as_signed}
+use Rattle.console_answers.proofs.put_reply.Goals as goal
+
+pub returns-in-Done : goal.returns-in-Done
+unfolding numbers
+returns-in-Done c = rw c.in-Done.is c.put_numbers.ensures
+
+pub returns-in-Refused : goal.returns-in-Refused
+unfolding numbers
+returns-in-Refused c = rw (c.in-Refused.is, as_signed c.in-Refused.k (omega arith)) c.put_numbers-in-Refused.ensures

@@ -1,0 +1,11 @@
+pub mod ArraysLaws
+pub mod BoundsLaws
+pub mod Counting
+pub mod Ended
+pub mod LentTableLaws
+pub mod Listed
+pub mod OtherStamps
+pub mod ReadAgreement
+pub mod RunExamples
+pub mod RunShapeLaws
+pub mod TableLaws

@@ -1,0 +1,12 @@
+-- `ffi_numbers::finding_numbers` gives the numbers of the answer.
+use Rattle.std.proofs.Common.{refl}
+use Rattle.model.specs.Calls.{numbers}
+use Rattle.ffi_numbers.specs.AnswerNumbers.{turned_back}
+use Rattle.ffi_numbers.proofs.finding_numbers.Goals as goal
+
+pub returns-in-Found : goal.returns-in-Found
+unfolding numbers
+returns-in-Found c = rw c.in-Found.is (record { says = λ k e. refl })
+
+pub returns-in-Refused : goal.returns-in-Refused
+returns-in-Refused c = rw c.in-Refused.is (turned_back 2 _)

@@ -1,0 +1,3 @@
+pub mod HostExamples
+pub mod HostReplica
+pub mod RestartLaws

@@ -1,0 +1,3 @@
+pub mod BodyExamples
+pub mod BodyLaws
+pub mod ColumnsLaws

@@ -1,0 +1,4 @@
+pub mod AllBlocks
+pub mod BlockLoops
+pub mod OnePass
+pub mod Round
