@@ -130,6 +130,7 @@ fn stopped_ok(outcome: u64, reads: usize, both: usize) -> bool
 
 // A row's run, of a body of m operations: at its start all zeros, else counter, outcome, read set and write set within their limits. An operation
 // reads or writes one object at most, so that there are no more entries than operations before the counter.
+#[tactic(auto, using(crate::proofs::RunTests::failing_tests))]
 fn run_ok(row: &[u8], objects: &[u8], readers: usize, most: usize, n: u64, m: usize) -> bool
     requires { (length row.now ≡ cells_of most * 8) × (m ≤ most) × Objects n readers objects.now }
     ensures { result ≡ run_in readers (cells objects.now) n m (cells row.now) }

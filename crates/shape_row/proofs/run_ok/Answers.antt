@@ -1,20 +1,10 @@
 -- The tests, in the order of the code, are those of the definition.
 use Rattle.std.proofs.Common.{◌≡◌, ◌&&◌, ◌||◌, Bool, true, eqb, sym, ◌∙◌, arith, le-leb}
-use Rattle.std.proofs.lemmas.Bool.{lt-leb}
 use Rattle.cells.specs.Cells.{cells}
-use Rattle.shape_row.specs.RowScan.{sets_in, begun, run_in, cells_of}
+use Rattle.shape_row.specs.RowScan.{sets_in, run_in, cells_of}
 use Rattle.shape_row.specs.RowTests.{zeros-rest, run-start, run-begun}
 use Rattle.shape_row.proofs.run_ok.Goals as goal
-use Rattle.shape_row.proofs.run_ok.Goals.{After-get-both, After-stopped_ok}
-
--- the four cells that were read
-tests : (c : After-get-both)
-    → run_in c.args.readers (cells c.args.objects.now) c.args.n c.args.m (cells c.args.row.now)
-    ≡ begun c.args.readers (cells c.args.objects.now) c.args.n c.args.m c.get-counter.result c.get-outcome.result c.get-reads.result c.get-both.result (cells c.args.row.now)
-tests c =
-    let a = c.args in
-    run-begun a.readers (cells a.objects.now) a.n a.m (cells a.row.now) c.get-counter.result c.get-counter.ensures c.if-counter-eq0.false
-    c.get-outcome.result c.get-reads.result c.get-both.result c.get-outcome.ensures c.get-reads.ensures c.get-both.ensures
+use Rattle.shape_row.proofs.run_ok.Goals.{After-stopped_ok}
 
 -- the tests before the last are passed
 passed : (c : After-stopped_ok)
@@ -39,34 +29,6 @@ returns-then-counter-eq0 c =
     let k = c.get-counter in
     let z = rw c.row_cells.ensures at c.cells_zero.ensures in
     z ∙ zeros-rest a.row.now (cells_of a.most) 2 c.requires.0 ∙ sym (run-start a.readers (cells a.objects.now) a.n a.m (cells a.row.now) k.result k.ensures c.if-counter-eq0.true)
-
-pub returns-then-m-counter : goal.returns-then-m-counter
-returns-then-m-counter c =
-    let k = c.get-counter.result in
-    sym (tests (goal.at.returns-then-m-counter c).After-get-both ∙ rw (lt-leb k c.args.m (omega arith)))
-
-pub returns-then-outcome-gt3 : goal.returns-then-outcome-gt3
-returns-then-outcome-gt3 c =
-    let k = c.get-counter.result in
-    let o = c.get-outcome.result in
-    sym (tests (goal.at.returns-then-outcome-gt3 c).After-get-both ∙ rw (le-leb k c.args.m (omega arith), lt-leb o 3 (omega arith)))
-
-pub returns-then-counter-both : goal.returns-then-counter-both
-returns-then-counter-both c =
-    let k = c.get-counter.result in
-    let o = c.get-outcome.result in
-    let b = c.get-both.result in
-    sym (tests (goal.at.returns-then-counter-both c).After-get-both ∙ rw (le-leb k c.args.m (omega arith), le-leb o 3 (omega arith), lt-leb b k (omega arith)))
-
-pub returns-then-both-reads : goal.returns-then-both-reads
-returns-then-both-reads c =
-    let k = c.get-counter.result in
-    let o = c.get-outcome.result in
-    let r = c.get-reads.result in
-    let b = c.get-both.result in
-    sym
-    (tests (goal.at.returns-then-both-reads c).After-get-both
-    ∙ rw (le-leb k c.args.m (omega arith), le-leb o 3 (omega arith), le-leb b k (omega arith), lt-leb r b (omega arith)))
 
 pub returns-then-stopped_ok : goal.returns-then-stopped_ok
 returns-then-stopped_ok c =
