@@ -26,6 +26,7 @@ fn all_below(part: &[u8], count: usize, bound: u64) -> bool
 }
 
 // Timestamp, last numbers and readers. An open reader's cell is its stamp + 1, and its stamp is not above the timestamp.
+#[tactic(auto, using(crate::proofs::PartTests::failing_tests))]
 pub fn header_ok(records: &[u8], l: Limits) -> bool
     requires { Record l records.now }
     ensures { result ≡ header_in l (cells records.now) }
@@ -48,6 +49,7 @@ pub fn header_ok(records: &[u8], l: Limits) -> bool
 }
 
 // The number of objects n, their versions beside the readers and inside their bounds, and zeros where there might be more objects.
+#[tactic(auto, using(crate::proofs::PartTests::failing_tests))]
 pub fn objects_ok(records: &[u8], l: Limits) -> bool
     requires { Record l records.now × (get_or (cells records.now) 0 0 ≤ last_timestamp) }
     ensures { result ≡ objects_in l (cells records.now) }

@@ -1,12 +1,7 @@
 -- A law for each answer.
-use Rattle.shape_objects.specs.HeaderParts.{header-late, header-lasts, header-readers}
+use Rattle.std.proofs.Common.{arith}
+use Rattle.shape_objects.specs.HeaderParts.{header-lasts, header-readers}
 use Rattle.shape_objects.proofs.header_ok.Goals as goal
-
-pub returns-then-timestamp-gt-LAST_TIMESTAMP : goal.returns-then-timestamp-gt-LAST_TIMESTAMP
-returns-then-timestamp-gt-LAST_TIMESTAMP c =
-    let a = c.args in
-    let t = c.get-timestamp in
-    header-late a.l a.records.now t.result t.ensures c.if-timestamp-gt-LAST_TIMESTAMP.true
 
 pub returns-then-all_below : goal.returns-then-all_below
 returns-then-all_below c =
@@ -17,7 +12,7 @@ returns-then-all_below c =
     let s = c.size_at-end in
     let p = c.all_below in
     let z = c.all_below-then-all_below in
-    header-readers a.l a.records.now t.result t.ensures c.if-timestamp-gt-LAST_TIMESTAMP.false f.result g.result s.result f.ensures.exact g.ensures.exact s.ensures.exact
+    header-readers a.l a.records.now t.result t.ensures (omega arith) f.result g.result s.result f.ensures.exact g.ensures.exact s.ensures.exact
     p.result p.ensures c.if-all_below.true z.result z.ensures
 
 pub returns : goal.returns
@@ -28,5 +23,5 @@ returns c =
     let g = c.reader_at-readers in
     let s = c.size_at-end in
     let p = c.all_below in
-    header-lasts a.l a.records.now t.result t.ensures c.if-timestamp-gt-LAST_TIMESTAMP.false f.result g.result s.result f.ensures.exact g.ensures.exact s.ensures.exact
+    header-lasts a.l a.records.now t.result t.ensures (omega arith) f.result g.result s.result f.ensures.exact g.ensures.exact s.ensures.exact
     p.result p.ensures c.if-all_below.false
