@@ -1,6 +1,6 @@
 -- The count read is that of the pending transactions; a row is what the laws of the walk say.
 use Rattle.std.proofs.Common.{arith}
-use Rattle.layout.specs.Reading.{count-read}
+use Rattle.layout.proofs.Reading.{count-read}
 use Rattle.final_walk.specs.Walk.{walk-long, walk-few, walked_start, walked_all, walk-there, walk-lying, walk-reads, walk-writes, walked-stale, walked_next}
 use Rattle.final_walk.proofs.first_stale.Goals as goal
 

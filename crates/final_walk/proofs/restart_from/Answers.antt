@@ -1,7 +1,7 @@
 -- The count read is that of the pending transactions; a turn clears one row.
 use Rattle.std.proofs.Common.{arith}
-use Rattle.layout.specs.Holds.{holds-long}
-use Rattle.layout.specs.Reading.{count-read}
+use Rattle.layout.proofs.HoldsLaws.{holds-long}
+use Rattle.layout.proofs.Reading.{count-read}
 use Rattle.final_walk.specs.RestartFrom.{restart_start, restart_end, row-there, restart_inside, restart_step}
 use Rattle.final_walk.proofs.restart_from.Goals as goal
 
