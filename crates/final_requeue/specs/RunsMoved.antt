@@ -23,7 +23,7 @@ use Rattle.layout.specs.Layout.{row, row_of, body_of, body}
 use Rattle.layout.specs.Offsets.{Sane, row_width, row_at, record_length, body_width, body_at, bodies_length}
 use Rattle.layout.specs.Printable.{RowFits, BodyFits}
 use Rattle.layout.proofs.PrintableLaws.{lawful_body, few_pending}
-use Rattle.layout.specs.Field.{sized, uniform}
+use Rattle.layout.proofs.LawfulLaws.{sized, uniform}
 use Rattle.layout.proofs.FieldsLaws.{sized_row}
 use Rattle.layout.specs.Fields.{sizes}
 use Rattle.layout.specs.Holds.{Holds, HoldsBodies, with_pending}
