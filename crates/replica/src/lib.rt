@@ -1,6 +1,6 @@
 // One replica of the standard kind ("cabinet unit") over the two areas that the caller lends: the public calls. Each makes the shape check and hands
 // its answer on to the call at any limits.
-#![tactic(auto)]
+#![tactic(auto, unfolding(model::specs::Limits::standard))]
 
 ghost use Rattle.std.specs.Prelude.{◌≡◌};
 ghost use Rattle.layout.specs.Fit.{fit};
