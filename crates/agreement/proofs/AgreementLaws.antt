@@ -1,24 +1,19 @@
 -- What follows from `specs/Agreement`. Assumes nothing.
-use Rattle.std.specs.Prelude.{◌≡◌, true, false, List, [], ◌∷◌, ℕ, ◌<◌, length, get_or}
+use Rattle.std.specs.Prelude.{◌≡◌, false, List, [], ◌∷◌, ℕ, ◌<◌, length, get_or}
 use Rattle.std.proofs.Common.{sym, ap, ◌∙◌, subst}
 use Rattle.model.specs.declared.Limits.{Limits}
 use Rattle.model.specs.Lists.{any}
 use Rattle.model.specs.Calls.{Call, open_reader, read, done, version}
 use Rattle.model.specs.Start.{no_version, start_of}
-use Rattle.model.specs.Serial as serial
-use Rattle.model.specs.Serial.{Serial}
 use Rattle.model.specs.Replica.{Replica, newest, opened}
 use Rattle.model.specs.ListLaws.{All}
 use Rattle.model.proofs.ShapeKept.{Typed}
-use Rattle.model.proofs.Serializability.{Serializable}
-use Rattle.model.proofs.Replicas.{SameCommits}
 use Rattle.model.proofs.ReaderSnapshots.{ends}
 use Rattle.model.proofs.UntouchedLaws.{store_count, untouched_start}
 use Rattle.model.proofs.EarlyRecord.{EarlyResults, demand_3-record}
-use Rattle.layout.specs.Fit.{fit}
 use Rattle.layout.specs.Act.{act, acts}
 use Rattle.layout.proofs.Areas.{acts-fit, serializable-on_areas}
-use Rattle.agreement.specs.Trace.{Trace, list, answers, areas, replica, history}
+use Rattle.agreement.specs.Trace.{Trace, areas, replica}
 use Rattle.agreement.proofs.TraceLaws.{dated, replica-same, reads-as_opened, same-commits, readers-agree}
 use Rattle.agreement.specs.Agreement.{Demand3}
 

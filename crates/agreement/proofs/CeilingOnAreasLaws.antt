@@ -1,9 +1,8 @@
 -- What follows from `specs/CeilingOnAreas`. Assumes nothing.
-use Rattle.std.specs.Prelude.{◌≡◌, Bool, false, not, ℕ, zero, suc, ◌*◌, ◌≤◌, length}
+use Rattle.std.specs.Prelude.{◌≡◌, Bool, not, ℕ, zero, suc, ◌*◌, ◌≤◌, length}
 use Rattle.std.proofs.Math.Path.{refl, ap}
 use Rattle.std.proofs.Common.{sym, ◌∙◌, subst, arith, mul-le-mul_left, le-ltb}
 use Rattle.std.proofs.Math.Bool.{true, cond}
-use Rattle.operation.specs.Body.{size}
 use Rattle.operation.proofs.BodyLaws.{length-operations}
 use Rattle.execution.specs.Run.{Table, whole_count}
 use Rattle.model.specs.declared.Limits.{Limits}

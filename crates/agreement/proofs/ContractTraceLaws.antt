@@ -1,5 +1,5 @@
 -- What follows from `specs/ContractTrace`. Assumes nothing.
-use Rattle.std.specs.Prelude.{◌≡◌, refl, List, [], ◌∷◌, ℕ}
+use Rattle.std.specs.Prelude.{◌≡◌, refl, List, ◌∷◌, ℕ}
 use Rattle.std.proofs.Common.{sym, ap, ap₂, ◌∙◌}
 use Rattle.std.specs.Borrow.{Bor}
 use Rattle.cells.specs.Cells.{Below}
@@ -13,8 +13,7 @@ use Rattle.layout.specs.Act.{act, acts}
 use Rattle.layout.proofs.Areas.{act-query}
 use Rattle.queue.specs.Shown.{Shown}
 use Rattle.layout.specs.Contract.{Met}
-use Rattle.agreement.specs.Trace.{Trace, list, answers, areas}
-use Rattle.agreement.specs.Agreement.{Demand3}
+use Rattle.agreement.specs.Trace.{Trace}
 use Rattle.agreement.proofs.AgreementLaws.{demand_3-on_areas}
 use Rattle.agreement.specs.ContractTrace.{AllMet, stop, next, Traced}
 

@@ -6,7 +6,7 @@ use Rattle.std.proofs.Math.Bool.{true, false}
 use Prim.Native.Nat.{ℕ, zero, suc}
 use Rattle.cells.specs.Cells.{Below}
 use Rattle.model.specs.declared.Limits.{Limits}
-use Rattle.model.specs.Interface.{Query, Version, previewed, done, executed, committed, observed, Answer, refused, yielded}
+use Rattle.model.specs.Interface.{Query, previewed, observed, Answer, yielded}
 use Rattle.model.specs.Lists.{pick}
 use Rattle.model.specs.Calls.{Call, final, show_body, dry_run, seen, is_key, bytes_of, causes, refusal, judged}
 use Rattle.model.specs.Start.{Start, start_of}

@@ -1,5 +1,5 @@
 -- What follows from `specs/ExchangeOnAreas`. Assumes nothing.
-use Rattle.std.specs.Prelude.{◌≡◌, refl, true, ◌&&◌, ℤ}
+use Rattle.std.specs.Prelude.{◌≡◌, refl, true}
 use Rattle.std.proofs.Math.Path.{sym}
 use Rattle.std.proofs.Common.{ap, ◌∙◌}
 use mathlib.Core.List.Permᴰ
@@ -20,7 +20,7 @@ use Rattle.model.proofs.Reordering.{Permutation}
 use Rattle.model.proofs.ExchangeLaws as states
 use Rattle.model.proofs.ExchangeLater.{later-alike}
 use Rattle.model.proofs.NamedObjects.{by_bodies}
-use Rattle.layout.specs.Layout.{Areas, parse, print}
+use Rattle.layout.specs.Layout.{Areas, print}
 use Rattle.layout.proofs.FitLaws.{parse-print}
 use Rattle.layout.specs.Act.{acts}
 use Rattle.layout.proofs.Areas.{acts-print, calls-shaped}

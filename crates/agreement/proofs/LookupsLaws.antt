@@ -21,7 +21,6 @@ use Rattle.layout.specs.Layout.{Areas, print}
 use Rattle.layout.proofs.FitLaws.{shape-fits}
 use Rattle.layout.specs.Holds.{Holds}
 use Rattle.layout.specs.Act.{act, acts}
-use Rattle.layout.specs.LentBlock.{versions_looked_at}
 use Rattle.layout.proofs.LentBlockLaws.{holds-looked_at}
 use Rattle.agreement.specs.Trace.{Trace, areas, replica}
 use Rattle.agreement.proofs.TraceLaws.{first, dated, last, last-shaped, replica-same, opens, then, then-shaped, areas-then}

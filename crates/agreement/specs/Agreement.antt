@@ -1,24 +1,20 @@
 -- DEMAND 3, whole, on the two lent areas: every list of calls by `act`, the function that the public contracts cite, each given both areas as the last one
 -- left them, from an accepted opening on areas with any contents (`Trace`). Assumes nothing.
 use Rattle.std.specs.Prelude.{◌≡◌, true, false, List, [], ◌∷◌, ℕ, ◌<◌, length, get_or}
-use Rattle.std.proofs.Common.{sym, ap, ◌∙◌, subst}
 use Rattle.model.specs.declared.Limits.{Limits}
 use Rattle.model.specs.Lists.{any}
 use Rattle.model.specs.Calls.{Call, open_reader, read, done, version}
-use Rattle.model.specs.Start.{no_version, start_of}
 use Rattle.model.specs.Serial as serial
 use Rattle.model.specs.Serial.{Serial}
-use Rattle.model.specs.Replica.{Replica, newest, opened}
+use Rattle.model.specs.Replica.{newest}
 use Rattle.model.specs.ListLaws.{All}
 use Rattle.model.proofs.ShapeKept.{Typed}
 use Rattle.model.proofs.Serializability.{Serializable}
 use Rattle.model.proofs.Replicas.{SameCommits}
 use Rattle.model.proofs.ReaderSnapshots.{ends}
-use Rattle.model.proofs.UntouchedLaws.{store_count, untouched_start}
-use Rattle.model.proofs.EarlyRecord.{EarlyResults, demand_3-record}
+use Rattle.model.proofs.EarlyRecord.{EarlyResults}
 use Rattle.layout.specs.Fit.{fit}
 use Rattle.layout.specs.Act.{act, acts}
-use Rattle.layout.proofs.Areas.{acts-fit, serializable-on_areas}
 use Rattle.agreement.specs.Trace.{Trace, list, answers, areas, replica, history}
 
 -- What holds of a trace: the answers of its calls, and the replica that the areas say after them.

@@ -1,28 +1,16 @@
 -- S-10 of document 02, for sizing, on the two lent areas: any areas that pass the shape check, early results that no calls led to included.
 -- Assumes nothing.
-use Rattle.std.specs.Prelude.{◌≡◌, Bool, false, not, ℕ, zero, suc, ◌*◌, ◌≤◌, length}
-use Rattle.std.proofs.Math.Path.{refl, ap}
-use Rattle.std.proofs.Common.{sym, ◌∙◌, subst, arith, mul-le-mul_left, le-ltb}
-use Rattle.std.proofs.Math.Bool.{true, cond}
+use Rattle.std.specs.Prelude.{◌≡◌, Bool, false, ℕ, ◌*◌, ◌≤◌, length}
+use Rattle.std.proofs.Math.Bool.{true}
 use Rattle.operation.specs.Body.{size}
-use Rattle.operation.proofs.BodyLaws.{length-operations}
-use Rattle.execution.specs.Run.{Table, whole_count}
+use Rattle.execution.specs.Run.{whole_count}
 use Rattle.model.specs.declared.Limits.{Limits}
 use Rattle.model.specs.Lists.{all}
-use Rattle.model.proofs.ListLaws.{count-few}
-use Rattle.model.specs.Calls.{final, execute, Committed, Answer, executed, committed, most_work, causes, refusal}
-use Rattle.model.specs.Replica.{Pending, Replica, with_pending, committed_table, program, finished, worked, work_count, keyed, validated, result, rework, facts, commit, perform, call}
-use Rattle.model.specs.ShapeCheck.{shaped}
-use Rattle.model.proofs.ShapeKept.{call-shaped}
-use Rattle.model.proofs.Ceiling.{keyed-short, all_short, rework-kept, rework-most, unfinished, finishes, finished-count}
-use Rattle.model.specs.Limits.{standard}
+use Rattle.model.specs.Calls.{execute, executed}
+use Rattle.model.specs.Replica.{committed_table, program, finished, keyed}
+use Rattle.model.proofs.Ceiling.{unfinished}
 use Rattle.layout.specs.Layout.{Areas, parse}
-use Rattle.layout.specs.Offsets.{Sane}
-use Rattle.layout.proofs.OffsetLaws.{standard-sane}
-use Rattle.layout.specs.Fit.{fit}
-use Rattle.layout.proofs.FitLaws.{fit-says, fit-shape, parse-print}
 use Rattle.layout.specs.Act.{act}
-use Rattle.layout.proofs.Areas.{act-refused, act-accepted}
 
 -- ---- the rework of a final delivery
 

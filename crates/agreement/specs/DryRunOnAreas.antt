@@ -1,30 +1,13 @@
 -- S-4 of document 02, for dispatch, on the two lent areas: any areas, early results that no calls led to included. Assumes nothing.
-use Rattle.std.specs.Prelude.{◌≡◌, Bool, List, ◌∷◌, map}
-use Rattle.std.proofs.Math.Path.{refl, ap}
-use Rattle.std.proofs.Common.{sym, ◌∙◌, true≢false}
-use Rattle.std.proofs.Math.Bool.{true, false}
-use Prim.Native.Nat.{ℕ, zero, suc}
-use Rattle.cells.specs.Cells.{Below}
+use Rattle.std.specs.Prelude.{◌≡◌, List, map}
+use Prim.Native.Nat.{ℕ}
 use Rattle.model.specs.declared.Limits.{Limits}
-use Rattle.model.specs.Interface.{Query, Version, previewed, done, executed, committed, observed, Answer, refused, yielded}
-use Rattle.model.specs.Lists.{pick}
-use Rattle.model.specs.Calls.{Call, final, show_body, dry_run, seen, is_key, bytes_of, causes, refusal, judged}
-use Rattle.model.specs.Start.{Start, start_of}
+use Rattle.model.specs.Interface.{Version, previewed, done, executed, committed, observed, Answer, refused, yielded}
+use Rattle.model.specs.Calls.{final, dry_run}
 use Rattle.model.specs.DryRun.{preview_of}
-use Rattle.model.specs.Replica.{Replica, newest, facts, delivered, opened, perform, call, calls}
-use Rattle.model.specs.VersionLaws.{Dated}
-use Rattle.model.proofs.Refusals.{dry_run-judged}
-use Rattle.model.specs.ShapeCheck.{shaped}
-use Rattle.model.proofs.ShapeKept.{call-shaped}
-use Rattle.model.proofs.Replicas as states
-use Rattle.model.proofs.Replicas.{reopening}
-use Rattle.layout.specs.Layout.{Areas, parse, print}
-use Rattle.layout.specs.Offsets.{Sane}
-use Rattle.layout.specs.Fit.{fit}
-use Rattle.layout.proofs.FitLaws.{fit-says, parse-print}
+use Rattle.model.specs.Replica.{newest}
+use Rattle.layout.specs.Layout.{Areas, parse}
 use Rattle.layout.specs.Act.{act}
-use Rattle.layout.proofs.Areas.{act-unfit, act-refused, act-accepted, act-query, act-print}
-use Rattle.agreement.specs.Trace.{Trace, areas, taken, bytes_in, history}
 
 -- What a dry run shows of a final delivery that answered this and left these newest versions: a refusal as it is. No final delivery answers anything else.
 abbrev pub previewed_as : Answer → List Version → Answer

@@ -1,30 +1,16 @@
 -- S-14 of document 02, for planners, on the two lent areas: after any list of calls, pending transactions that may change places. Assumes nothing.
-use Rattle.std.specs.Prelude.{◌≡◌, refl, true, ◌&&◌, ℤ}
-use Rattle.std.proofs.Math.Path.{sym}
-use Rattle.std.proofs.Common.{ap, ◌∙◌}
-use mathlib.Core.List.Permᴰ
+use Rattle.std.specs.Prelude.{◌≡◌, true, ◌&&◌, ℤ}
 use mathlib.Core.List.{List, [], ◌∷◌, map, reverse}
 use Rattle.model.specs.declared.Limits.{Limits}
 use Rattle.model.specs.Lists.{all}
-use Rattle.model.specs.Interface.{Answer, refused, yielded}
-use Rattle.model.specs.Start.{start_of}
+use Rattle.model.specs.Interface.{Answer}
 use Rattle.model.specs.Calls.{Call}
-use Rattle.model.specs.Replica.{Replica, calls}
 use Rattle.model.specs.ListLaws.{All}
-use Rattle.model.proofs.Invariant.{Invariant, opened-invariant, calls-invariant}
-use Rattle.model.specs.ShapeCheck.{shaped}
-use Rattle.model.proofs.ShapeCheckLaws.{shaped-says}
 use Rattle.model.proofs.ShapeKept.{Typed}
-use Rattle.model.specs.Exchange.{Key, deliveries, alone, exchangeable, exchangeable_by_bodies, same_answer, answer_of, newest_values}
-use Rattle.model.proofs.Reordering.{Permutation}
-use Rattle.model.proofs.ExchangeLaws as states
-use Rattle.model.proofs.ExchangeLater.{later-alike}
-use Rattle.model.proofs.NamedObjects.{by_bodies}
-use Rattle.layout.specs.Layout.{Areas, parse, print}
-use Rattle.layout.proofs.FitLaws.{parse-print}
+use Rattle.model.specs.Exchange.{Key, deliveries, alone, same_answer, answer_of, newest_values}
+use Rattle.layout.specs.Layout.{Areas, parse}
 use Rattle.layout.specs.Act.{acts}
-use Rattle.layout.proofs.Areas.{acts-print, calls-shaped}
-use Rattle.agreement.specs.Trace.{Trace, areas, replica, taken}
+use Rattle.agreement.specs.Trace.{taken}
 
 -- the newest values that the areas say
 abbrev pub values_on : Limits → Areas → List ℤ

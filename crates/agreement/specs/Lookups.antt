@@ -1,28 +1,10 @@
 -- S-3 of document 02, for the analysts who asked: how many versions a read looks at, on the two lent areas. Assumes nothing.
-use Rattle.std.specs.Prelude.{◌≡◌, false, List, [], ◌∷◌, ℕ, suc, ◌≤◌, ◌<◌, length, get_or}
-use Rattle.std.proofs.Math.Path.{ap}
-use Rattle.std.proofs.Math.Option.{none, some}
-use Rattle.std.proofs.Common.{arith}
+use Rattle.std.specs.Prelude.{◌≡◌, List, ◌∷◌, ℕ, suc, ◌≤◌}
 use Rattle.model.specs.declared.Limits.{Limits}
-use Rattle.model.specs.Lists.{any}
-use Rattle.model.specs.Calls.{Call, open_reader, done}
-use Rattle.model.specs.Start.{start_of}
-use Rattle.model.specs.Replica.{Replica}
-use Rattle.model.specs.ListLaws.{All}
-use Rattle.model.proofs.Invariant.{Invariant, opened-invariant, calls-invariant}
-use Rattle.model.specs.Shape.{Shape}
-use Rattle.model.proofs.ShapeCheckLaws.{shaped-says}
-use Rattle.model.proofs.ShapeKept.{Typed}
-use Rattle.model.proofs.ReaderSnapshots.{ends, some-within, stamp-stays, as_many_objects}
+use Rattle.model.specs.Calls.{Call, open_reader}
 use Rattle.model.proofs.UntouchedLaws.{store_count}
-use Rattle.model.specs.LookedAt.{looked_at}
-use Rattle.model.proofs.LookedAtLaws.{looked_at-since, looked_at-most}
-use Rattle.layout.specs.Layout.{Areas, print}
-use Rattle.layout.proofs.FitLaws.{shape-fits}
-use Rattle.layout.specs.Holds.{Holds}
-use Rattle.layout.specs.Act.{act, acts}
+use Rattle.layout.specs.Act.{acts}
 use Rattle.layout.specs.LentBlock.{versions_looked_at}
-use Rattle.layout.proofs.LentBlockLaws.{holds-looked_at}
 use Rattle.agreement.specs.Trace.{Trace, areas, replica}
 
 -- Reader r was opened on these areas, and then came any calls but its close or a new opening: of object o's versions a read of it looks at these many.
