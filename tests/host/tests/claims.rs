@@ -97,7 +97,7 @@ fn proofs_stand_in_the_folder_that_is_named() {
     let turns = turns();
     let named = |word: &&String| word.contains("/proofs/") && !word.starts_with("crates/");
     let proofs: Vec<&String> = turns.iter().skip(1).step_by(2).filter(named).collect();
-    let there = |word: &&&String| crates().join(word.as_str()).join("Proof.antt").exists();
+    let there = |word: &&&String| crates().join(word.as_str()).join("Answers.antt").exists();
     assert_eq!(proofs.iter().filter(there).count(), proofs.len(), "{proofs:?}");
     assert_eq!(proofs.len(), 10, "one for each public call");
 }
