@@ -14,7 +14,8 @@ use Rattle.model.proofs.EarlyRecord.{EarlyResults, demand_3-record}
 use Rattle.layout.specs.Act.{act, acts}
 use Rattle.layout.proofs.Areas.{acts-fit, serializable-on_areas}
 use Rattle.agreement.specs.Trace.{Trace, areas, replica}
-use Rattle.agreement.proofs.TraceLaws.{dated, replica-same, reads-as_opened, same-commits, readers-agree}
+use Rattle.agreement.proofs.TraceLaws.{dated, replica-same, reads-as_opened}
+use Rattle.agreement.proofs.TwoTraces.{same-commits, readers-agree}
 use Rattle.agreement.specs.Agreement.{Demand3}
 
 pub demand_3-on_areas : {l : Limits} (x : Trace l) → Demand3 x

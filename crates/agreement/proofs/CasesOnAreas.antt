@@ -1,23 +1,21 @@
 -- The starred cases of document 01, "A small depot", on real areas of the standard limits. Assumes nothing.
-use Rattle.std.specs.Prelude.{◌≡◌, refl, true, ◌≤◌, ℤ, length}
+use Rattle.std.specs.Prelude.{◌≡◌, refl, true, ℤ, length}
 use Rattle.std.proofs.Common.{ap, ◌∙◌, arith}
 use Rattle.std.proofs.Math.Path.{ap₂}
 use mathlib.Core.List.{List, [], ◌∷◌, map}
 use Rattle.arith.specs.Integer.{fits}
 use Rattle.execution.proofs.ReadAgreement.{both}
 use Rattle.model.specs.Lists.{all}
-use Rattle.model.specs.Calls.{plain, opening, Answer, done, last_timestamp}
+use Rattle.model.specs.Calls.{plain, opening, Answer, done}
 use Rattle.model.specs.Replica.{Replica, newest}
 use Rattle.model.specs.Limits.{standard}
 use Rattle.model.specs.ListLaws.{All}
-use Rattle.model.proofs.ShapeKept.{Typed, plain-typed}
 use Rattle.model.specs.Cases.{Case, outcome, cases, expected}
 use Rattle.model.proofs.CasesLaws.{cases-hold}
 use Rattle.layout.specs.Layout.{Areas, parse}
-use Rattle.layout.proofs.OffsetLaws.{standard-sane}
 use Rattle.layout.specs.Act.{acts}
-use Rattle.agreement.specs.Trace.{Trace}
-use Rattle.agreement.proofs.TraceLaws.{right-lengths, trace_on, answers-same, replica-same}
+use Rattle.agreement.proofs.TraceLaws.{answers-same, replica-same}
+use Rattle.agreement.proofs.CaseTrace.{Small, trace}
 
 -- the answers, the opening's first, and the committed values that the areas say after the last
 unfoldable pub outcome_on : Areas → Case → List Answer × List ℤ
@@ -30,9 +28,6 @@ opened_first r = (done ∷ r.0, r.1)
 
 -- ---- an opening that is accepted, and arguments that the code's types can hold
 
-abbrev Small : Case → Type 0
-Small x = (1 ≤ length x.0) × (length x.0 ≤ 128) × All Typed x.1
-
 all_small : All Small cases
 unfolding cases
 all_small = (omega arith, (omega arith, (omega arith, (omega arith, omega arith))))
@@ -42,15 +37,10 @@ unfolding cases fits
 all_fit = refl
 
 module _ (a : Areas) (e : length a.0 ≡ 30160) (f : length a.1 ≡ 5664) where
-  trace : (x : Case) → Small x → all fits x.0 ≡ true → Trace standard
-  unfolding standard last_timestamp
-  trace x h v =
-      trace_on standard standard-sane a (right-lengths standard a e f) x.0 0 x.1 h.0 h.1 (plain-typed x.0 0 v (omega arith), h.2)
-
   same_outcome : (x : Case) → Small x → all fits x.0 ≡ true → outcome_on a x ≡ opened_first (outcome x)
   unfolding outcome_on outcome trace
   same_outcome x h v =
-      ap₂ (λ (r : List Answer) (u : Replica). (r, map (λ vs. (newest vs).value) u.objects)) (answers-same (trace x h v)) (replica-same (trace x h v))
+      ap₂ (λ (r : List Answer) (u : Replica). (r, map (λ vs. (newest vs).value) u.objects)) (answers-same (trace a e f x h v)) (replica-same (trace a e f x h v))
 
   same-outcomes : (xs : List Case) → All Small xs → all (λ (x : Case). all fits x.0) xs ≡ true → map (outcome_on a) xs ≡ map opened_first (map outcome xs)
   same-outcomes [] h v = refl

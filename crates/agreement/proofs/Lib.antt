@@ -8,3 +8,5 @@ pub mod ExchangeOnAreasLaws
 pub mod LookupsLaws
 pub mod TraceLaws
 pub mod TwoKinds
+pub mod CaseTrace
+pub mod TwoTraces
