@@ -18,3 +18,13 @@ unused-read before moved part rest from k n m h e l f =
     let w : length unused ≡ k = length-take-le k (drop from before) (simp length-drop (omega arith)) in
     let kept : take k moved ≡ unused = rw e (take_at unused (drop (0 + length unused) before) k w) in
     rw (f, kept, behind unused (part ++ rest) k n w, take-append-le n part rest l)
+
+-- The same, of a part of which nothing is known: the unused bytes stand at the start.
+pub unused-kept : (before moved part rest : List ℕ) (from k : ℕ) → from + k ≤ length before → moved ≡ splice before 0 (take k (drop from before))
+    → take k (take k moved ++ (part ++ rest)) ≡ take k (drop from before)
+unfolding splice
+unused-kept before moved part rest from k h e =
+    let unused = take k (drop from before) in
+    let w : length unused ≡ k = length-take-le k (drop from before) (simp length-drop (omega arith)) in
+    let kept : take k moved ≡ unused = rw e (take_at unused (drop (0 + length unused) before) k w) in
+    rw kept (take_at unused (part ++ rest) k w)

@@ -1,6 +1,6 @@
 // Input, by blocks.
-ghost use Rattle.std.specs.Prelude.{◌≡◌, ℕ, ◌-◌, ◌<◌, List, ◌++◌, true, length, IfOk};
-ghost use Rattle.std.specs.Io.KnownBytes.{Consumes, IsAtEnd};
+ghost use Rattle.std.specs.Prelude.{◌≡◌, ℕ, ◌-◌, ◌<◌, List, ◌++◌, true, length, take, IfOk, OnErr};
+ghost use Rattle.std.specs.Io.KnownBytes.{Keeps, Consumes, IsAtEnd};
 ghost use Rattle.console.specs.Input.{Within, unused};
 
 use std::io;
@@ -28,6 +28,7 @@ impl Input {
 }
 
 // Moves the unused bytes to the buffer's start and reads once behind them. Nothing read: the input has ended.
+// An error is the read's: the unused bytes are moved, and the reader has given none.
 pub fn more<R: Read>(reader: &mut R, buffer: &mut [u8], input: Input) -> io::Result<Input>
     requires { Within input (length buffer.old) }
     ensures within { IfOk result (λ i. Within i (length buffer.new)) }
@@ -35,6 +36,8 @@ pub fn more<R: Read>(reader: &mut R, buffer: &mut [u8], input: Input) -> io::Res
         × (unused i buffer.new ≡ unused input buffer.old ++ read)) }
     ensures ended { IfOk result (λ i. i.ended ≡ true → input.end - input.from < length buffer.old
         → IsAtEnd (R.remaining reader.new)) }
+    ensures err_unused { OnErr result (take (input.end - input.from) buffer.new ≡ unused input buffer.old) }
+    ensures err_reader { OnErr result (Keeps (R.remaining reader.old) (R.remaining reader.new)) }
 {
     let from = input.from;
     let unread = input.end - from;
