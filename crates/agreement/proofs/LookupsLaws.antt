@@ -13,7 +13,8 @@ use Rattle.model.proofs.Invariant.{Invariant, opened-invariant, calls-invariant}
 use Rattle.model.specs.Shape.{Shape}
 use Rattle.model.proofs.ShapeCheckLaws.{shaped-says}
 use Rattle.model.proofs.ShapeKept.{Typed}
-use Rattle.model.proofs.ReaderSnapshots.{ends, some-within, stamp-stays, as_many_objects}
+use Rattle.model.proofs.ReaderSnapshots.{ends, some-within}
+use Rattle.model.proofs.ReaderViews.{stamp-stays, as_many_objects}
 use Rattle.model.proofs.UntouchedLaws.{store_count}
 use Rattle.model.specs.LookedAt.{looked_at}
 use Rattle.model.proofs.LookedAtLaws.{looked_at-since, looked_at-most}

@@ -20,7 +20,8 @@ use Rattle.model.specs.ShapeCheck.{shaped}
 use Rattle.model.proofs.ShapeKept.{Typed, call-shaped}
 use Rattle.model.proofs.Replicas as states
 use Rattle.model.proofs.Replicas.{reopening, delivery, if_accepted, SameCommits}
-use Rattle.model.proofs.ReaderSnapshots.{ends, reader-snapshot}
+use Rattle.model.proofs.ReaderSnapshots.{ends}
+use Rattle.model.proofs.ReaderViews.{reader-snapshot}
 use Rattle.layout.specs.Layout.{Areas, parse, print, lengths}
 use Rattle.layout.specs.Offsets.{Sane, record_length, bodies_length}
 use Rattle.layout.specs.Fields.{sizes}

@@ -37,3 +37,4 @@ pub mod UntouchedLaws
 pub mod Validation
 pub mod VersionLaws
 pub mod Work
+pub mod ReaderViews

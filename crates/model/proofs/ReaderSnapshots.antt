@@ -13,14 +13,13 @@ use Rattle.model.specs.declared.Limits.{Limits}
 use Rattle.model.specs.Lists.{any}
 use Rattle.model.specs.Interface.{optimistic, execute, final, open_reader, close_reader, read, Call, opening, update, query}
 use Rattle.model.specs.Calls.{version, Facts, causes, refusal, judged}
-use Rattle.model.specs.Start.{Version, no_version, Start}
+use Rattle.model.specs.Start.{Version, no_version}
 use Rattle.model.specs.Serial.{is_some}
-use Rattle.model.specs.Replica.{Replica, newest, as_of, opens, prune, committed_table, keyed, result, facts, commit, opened, perform, call, calls}
+use Rattle.model.specs.Replica.{Replica, newest, as_of, opens, prune, committed_table, keyed, result, facts, commit, perform, call, calls}
 use Rattle.model.proofs.ListLaws.{or_right, map-all, map_map-same, all-implies}
-use Rattle.model.specs.VersionLaws.{Dated}
 use Rattle.model.proofs.VersionLaws.{as_of-prune, as_of-now, as_of-install}
 use Rattle.model.proofs.Refusals.{accepted, opening-judged}
-use Rattle.model.proofs.Invariant.{Invariant, opened-invariant, call-invariant, calls-invariant}
+use Rattle.model.proofs.Invariant.{Invariant, call-invariant}
 use Rattle.model.proofs.Tests.{neither}
 
 -- an opening is judged by its arguments alone
@@ -53,12 +52,12 @@ opens_at (some r ∷ l) (suc i) t e = or_right (eqb t r) (any (eqb t) (opens l))
 
 -- ---- an open reader, its stamp, and the copy that it answers from
 
-record Open (r since : ℕ) (copy : List Version) (u : Replica) : Type 0 where
-  entry : get_or u.readers r none ≡ some since
-  view : map (as_of since) u.objects ≡ copy
+pub record Open (r since : ℕ) (copy : List Version) (u : Replica) : Type 0 where
+  pub entry : get_or u.readers r none ≡ some since
+  pub view : map (as_of since) u.objects ≡ copy
 
 module _ (l : Limits) (r : ℕ) where
-  open_reader-opens : (u : Replica) → Invariant l u → refusal l (facts u) (update (open_reader r)) ≡ 0 → Open r u.timestamp (map newest u.objects) (call l u (update (open_reader r))).1
+  pub open_reader-opens : (u : Replica) → Invariant l u → refusal l (facts u) (update (open_reader r)) ≡ 0 → Open r u.timestamp (map newest u.objects) (call l u (update (open_reader r))).1
   unfolding call perform causes
   open_reader-opens u v e =
       rw e
@@ -113,7 +112,7 @@ module _ (l : Limits) (r : ℕ) where
         go' (suc k) e = h
 
     -- it answers from its copy
-    read-open : (o : ℕ) → o < length copy → (call l u (query (read r o))).0 ≡ version (get_or copy o no_version)
+    pub read-open : (o : ℕ) → o < length copy → (call l u (query (read r o))).0 ≡ version (get_or copy o no_version)
     unfolding call perform facts refusal causes
     read-open o k =
         let seated : r < l.readers = (let z = v.seats in omega (arith, some-within u.readers r since h.entry)) in
@@ -121,42 +120,9 @@ module _ (l : Limits) (r : ℕ) where
         rw (lt-leb l.readers r seated, is_open, lt-leb (length u.objects) o there)
         (rw (h.entry, ← h.view, get_or-map (as_of since) u.objects o []))
 
-  calls-open : (since : ℕ) (copy : List Version) (cs : List Call) (u : Replica) → Invariant l u → Open r since copy u → any (ends l r) cs ≡ false → Open r since copy (calls l u cs).1
+  pub calls-open : (since : ℕ) (copy : List Version) (cs : List Call) (u : Replica) → Invariant l u → Open r since copy u → any (ends l r) cs ≡ false → Open r since copy (calls l u cs).1
   unfolding calls
   calls-open since copy [] u v h q = h
   calls-open since copy (c ∷ cs) u v h q =
       let k = neither (ends l r c) (any (ends l r) cs) q in
       calls-open since copy cs (call l u c).1 (call-invariant l u v c) (call-open since copy u v h c k.0) k.1
-
-  -- From any replica that keeps the invariant: reader r is opened, and then come any calls that do not end it.
-  module _ (u : Replica) (v : Invariant l u) (e : refusal l (facts u) (update (open_reader r)) ≡ 0) (cs : List Call) (q : any (ends l r) cs ≡ false) where
-    abbrev then : Replica
-    then = (calls l u (update (open_reader r) ∷ cs)).1
-
-    w : Invariant l (call l u (update (open_reader r))).1
-    w = call-invariant l u v (update (open_reader r))
-
-    still_open : Open r u.timestamp (map newest u.objects) then
-    unfolding calls
-    still_open = calls-open u.timestamp (map newest u.objects) cs (call l u (update (open_reader r))).1 w (open_reader-opens u v e) q
-
-    -- it has the stamp that it took
-    pub stamp-stays : get_or then.readers r none ≡ some u.timestamp
-    stamp-stays = still_open.entry
-
-    pub as_many_objects : length then.objects ≡ length u.objects
-    as_many_objects = sym (length-map then.objects (as_of u.timestamp)) ∙ ap length still_open.view ∙ length-map u.objects newest
-
-    -- A read of it is not refused, and answers the version, its value and its stamp, that the object had in the committed state when the reader was opened.
-    pub reads-as_opened : (o : ℕ) → o < length u.objects → (call l then (query (read r o))).0 ≡ version (newest (get_or u.objects o []))
-    unfolding calls
-    reads-as_opened o k =
-        read-open u.timestamp (map newest u.objects) then (calls-invariant l cs (call l u (update (open_reader r))).1 w) still_open o (rw (length-map u.objects newest) k)
-        ∙ ap version (get_or-map newest u.objects o [])
-
--- the same for a list that starts with an opening: `before` the reader is opened and `after`
-pub reader-snapshot : (l : Limits) (s : Start) → Dated s → (before after : List Call) (r o : ℕ)
-    → let u = (calls l (opened l s) before).1 in refusal l (facts u) (update (open_reader r)) ≡ 0 → any (ends l r) after ≡ false → o < length u.objects
-    → (call l (calls l u (update (open_reader r) ∷ after)).1 (query (read r o))).0 ≡ version (newest (get_or u.objects o []))
-reader-snapshot l s d before after r o e q k =
-    reads-as_opened l r (calls l (opened l s) before).1 (calls-invariant l before (opened l s) (opened-invariant l s d)) e after q o k
