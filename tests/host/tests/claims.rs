@@ -95,7 +95,7 @@ fn functions_stand_in_the_crate_that_is_named() {
 #[test]
 fn proofs_stand_in_the_folder_that_is_named() {
     let turns = turns();
-    let named = |word: &&String| word.contains("/proofs/") && !word.starts_with("crates/");
+    let named = |word: &&String| word.contains("/proofs/") && !names_a_file(word) && !word.starts_with("crates/");
     let proofs: Vec<&String> = turns.iter().skip(1).step_by(2).filter(named).collect();
     let there = |word: &&&String| crates().join(word.as_str()).join("Answers.antt").exists();
     assert_eq!(proofs.iter().filter(there).count(), proofs.len(), "{proofs:?}");
