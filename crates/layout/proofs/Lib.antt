@@ -22,3 +22,4 @@ pub mod TableChanges
 pub mod UncheckedRows
 pub mod Writing
 pub mod WritingRows
+pub mod UncheckedLaws

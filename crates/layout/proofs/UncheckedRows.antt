@@ -16,7 +16,7 @@ use Rattle.layout.specs.RowLaws.{length-chunks}
 use Rattle.layout.specs.Codec.{cell, pair, via, array, counted}
 use Rattle.layout.specs.Layout.{signed, key_of, entry, entry_of, of_entry, two, row}
 use Rattle.layout.specs.Offsets.{counter_at, outcome_at, register_at, reads_at, entries_at, entry_at}
-use Rattle.layout.specs.Unchecked.{chunks-take, chunks-one, array_ok, counted-dec, counted-ok}
+use Rattle.layout.proofs.UncheckedLaws.{chunks-take, chunks-one, array_ok, counted-dec, counted-ok}
 
 number : (x : List ℕ) (i : ℕ) → get_or (take 1 (drop i x)) 0 0 ≡ get_or x i 0
 number x i =

@@ -28,7 +28,8 @@ use Rattle.layout.specs.Layout.{reader_of, object, record_area, row, body, body_
 use Rattle.layout.specs.Offsets.{Sane, object_width, object_at, pending_at, row_width, row_at, record_length, body_width, body_at, bodies_length}
 use Rattle.layout.specs.Field.{drop-take}
 use Rattle.layout.specs.Fields.{sizes}
-use Rattle.layout.specs.Unchecked.{chunks-take, size_in, pending_in, blocks_in, laid-is, parsed-timestamp, parsed-lasts, parsed-readers, parsed-objects, parsed-bounds, parsed-pending}
+use Rattle.layout.proofs.UncheckedLaws.{chunks-take, laid-is, parsed-timestamp, parsed-lasts, parsed-readers, parsed-objects, parsed-bounds, parsed-pending}
+use Rattle.layout.specs.Unchecked.{size_in, pending_in, blocks_in}
 use Rattle.layout.proofs.ObjectBlock.{versions-said, bounds-said}
 use Rattle.layout.specs.Fit.{fit}
 use Rattle.layout.proofs.Core.{core, fit-core}
