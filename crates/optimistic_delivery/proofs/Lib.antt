@@ -1,1 +1,2 @@
 pub mod DeliveredLaws
+pub mod DeliveredTests

@@ -1,33 +1,10 @@
 -- Optimistic delivery: its causes by what the code tests, and what its writes leave. Assumes nothing.
-use Rattle.std.specs.Prelude.{◌≡◌, refl, Bool, not, List, [], ◌∷◌, ◌++◌, ℕ, suc, ◌+◌, ◌-◌, ◌^◌, ◌≤◌, ◌<◌, leb, ltb, length, take, drop}
-use Rattle.std.proofs.Math.Path.{sym}
-use Rattle.std.proofs.Common.{ap, ap₂, ◌∙◌, subst, append-nil, length-take, drop_of_length-le, take_all, lt-ltb, le-ltb, le-leb}
-use Rattle.std.proofs.Math.Bool.{true, false}
-use native.Mathlib.Omega.{arith}
-use Rattle.std.proofs.Math.ListN.{length-map}
-use borrow.Rule.Slice.PartMut.{mid_of, put_mid}
-use Rattle.std.proofs.lemmas.Bool.{lt-leb}
+use Rattle.std.specs.Prelude.{◌≡◌, List, ℕ, ◌+◌, ◌≤◌, ◌<◌, length}
 use Rattle.cells.specs.Cells.{Put, splice}
-use Rattle.cells.specs.Splice.{splice-back}
-use Rattle.operation.specs.Body.{is_well_formed}
-use Rattle.operation.proofs.BodyLaws.{formed}
 use Rattle.execution.specs.Run.{start}
 use Rattle.model.specs.declared.Limits.{Limits}
-use Rattle.model.specs.Calls.{clients, spent, optimistic, Answer, refused, done, first_cause, causes, refusal}
-use Rattle.model.specs.Replica.{Pending, Replica, facts, perform}
-use Rattle.layout.specs.Layout.{of_key, Areas, parse, print}
-use Rattle.layout.specs.Offsets.{Sane, pending_at, row_at, record_length, body_width, body_at, bodies_length}
-use Rattle.layout.proofs.OffsetLaws.{body-room}
-use Rattle.layout.specs.Printable.{KeyFits, BodyFits}
-use Rattle.layout.proofs.PrintableLaws.{any-all}
-use Rattle.layout.specs.Holds.{Holds, HoldsBodies, with_pending}
-use Rattle.layout.proofs.HoldsLaws.{holds-print}
-use Rattle.layout.proofs.WritingRows.{append-new}
-use Rattle.layout.proofs.Bodies.{append-body}
-use Rattle.layout.specs.Fit.{fit}
-use Rattle.layout.specs.Act.{act}
-use Rattle.layout.proofs.Areas.{act-refused, act-accepted}
-use Rattle.queue.specs.Found.{position, queued}
+use Rattle.model.specs.Replica.{Pending}
+use Rattle.layout.specs.Offsets.{pending_at, row_at, record_length, body_width, body_at, bodies_length}
 
 -- ---- the writes, on bytes
 
