@@ -36,6 +36,7 @@ pub fn more<R: Read>(reader: &mut R, buffer: &mut [u8], input: Input) -> io::Res
         × (unused i buffer.new ≡ unused input buffer.old ++ read)) }
     ensures ended { IfOk result (λ i. i.ended ≡ true → input.end - input.from < length buffer.old
         → IsAtEnd (R.remaining reader.new)) }
+    ensures nothing_read { IfOk result (λ i. i.end ≡ input.end - input.from → i.ended ≡ true) }
     ensures err_unused { OnErr result (take (input.end - input.from) buffer.new ≡ unused input buffer.old) }
     ensures err_reader { OnErr result (Keeps (R.remaining reader.old) (R.remaining reader.new)) }
 {
