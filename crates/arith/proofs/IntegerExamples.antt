@@ -1,7 +1,5 @@
 -- Sums, differences and quotients, computed: every sign, and the ends of 64 bits. Assumes nothing.
-use Rattle.std.specs.Prelude.{ℕ, Bool, true, false, ◌≡◌, refl, List, [], ◌∷◌, map, ℤ, pos, negsuc, ◌+ℤ◌, ◌-ℤ◌}
-use Rattle.arith.specs.declared.Checked.{Checked}
-use Rattle.arith.specs.declared.Checked.TheVariants.{Value, Overflow}
+use Rattle.std.specs.Prelude.{Option, Some, None, ℕ, Bool, true, false, ◌≡◌, refl, List, [], ◌∷◌, map, ℤ, pos, negsuc, ◌+ℤ◌, ◌-ℤ◌}
 use Rattle.arith.specs.Integer.{fits, bounded, rounds_up, quotient, eq_z}
 use Rattle.arith.proofs.HalfToEven.{half_away}
 
@@ -13,25 +11,25 @@ abbrev least : ℤ
 least = negsuc 9223372036854775807
 
 -- x, y, x + y and x - y
-unfoldable pub sums : List (ℤ × ℤ × Checked × Checked)
+unfoldable pub sums : List (ℤ × ℤ × Option ℤ × Option ℤ)
 sums =
-    (pos 7, pos 5, Value (pos 12), Value (pos 2))
-    ∷ (pos 5, pos 7, Value (pos 12), Value (negsuc 1))
-    ∷ (pos 7, negsuc 4, Value (pos 2), Value (pos 12))
-    ∷ (negsuc 6, pos 5, Value (negsuc 1), Value (negsuc 11))
-    ∷ (negsuc 6, negsuc 4, Value (negsuc 11), Value (negsuc 1))
-    ∷ (pos 0, negsuc 4, Value (negsuc 4), Value (pos 5))
+    (pos 7, pos 5, Some (pos 12), Some (pos 2))
+    ∷ (pos 5, pos 7, Some (pos 12), Some (negsuc 1))
+    ∷ (pos 7, negsuc 4, Some (pos 2), Some (pos 12))
+    ∷ (negsuc 6, pos 5, Some (negsuc 1), Some (negsuc 11))
+    ∷ (negsuc 6, negsuc 4, Some (negsuc 11), Some (negsuc 1))
+    ∷ (pos 0, negsuc 4, Some (negsuc 4), Some (pos 5))
     -- document 01, case 7, and the other end
-    ∷ (most, pos 1, Overflow, Value (pos 9223372036854775806))
-    ∷ (most, negsuc 0, Value (pos 9223372036854775806), Overflow)
-    ∷ (least, pos 1, Value (negsuc 9223372036854775806), Overflow)
-    ∷ (least, negsuc 0, Overflow, Value (negsuc 9223372036854775806))
+    ∷ (most, pos 1, None, Some (pos 9223372036854775806))
+    ∷ (most, negsuc 0, Some (pos 9223372036854775806), None)
+    ∷ (least, pos 1, Some (negsuc 9223372036854775806), None)
+    ∷ (least, negsuc 0, None, Some (negsuc 9223372036854775806))
     -- both ends reached exactly
-    ∷ (pos 9223372036854775806, pos 1, Value most, Value (pos 9223372036854775805))
-    ∷ (negsuc 9223372036854775806, pos 1, Value (negsuc 9223372036854775805), Value least)
-    ∷ (negsuc 0, least, Overflow, Value most)
-    ∷ (pos 0, least, Value least, Overflow)
-    ∷ (least, most, Value (negsuc 0), Overflow)
+    ∷ (pos 9223372036854775806, pos 1, Some most, Some (pos 9223372036854775805))
+    ∷ (negsuc 9223372036854775806, pos 1, Some (negsuc 9223372036854775805), Some least)
+    ∷ (negsuc 0, least, None, Some most)
+    ∷ (pos 0, least, Some least, None)
+    ∷ (least, most, Some (negsuc 0), None)
     ∷ []
 
 -- a number, a divisor, the nearest whole number, a half to the even neighbour, and what it was by the base's rule: another only at an exact half

@@ -1,20 +1,18 @@
 -- Signed 64-bit numbers: their range, sums that may leave it, and division to the nearest whole number. Assumes nothing.
-use Rattle.std.specs.Prelude.{ℕ, ◌+◌, ◌*◌, ◌/◌, ◌%◌, ◌^◌, Bool, true, false, ◌||◌, ◌&&◌, ltb, eqb, ℤ, pos, negsuc, neg_ℤ, nat_abs}
+use Rattle.std.specs.Prelude.{ℕ, ◌+◌, ◌*◌, ◌/◌, ◌%◌, ◌^◌, Bool, true, false, ◌||◌, ◌&&◌, ltb, eqb, ℤ, pos, negsuc, neg_ℤ, nat_abs, Option, Some, None}
 use Rattle.std.specs.Int.Signed.{mag}
-use Rattle.arith.specs.declared.Checked.{Checked}
-use Rattle.arith.specs.declared.Checked.TheVariants.{Value, Overflow}
 
 -- whether 64 bits hold z: -2^63 to 2^63 - 1 (`mag z` is n both for n and for -(n + 1))
 unfoldable pub fits : ℤ → Bool
 fits z = ltb (mag z) (2 ^ 63)
 
-abbrev pub pick_checked : Bool → Checked → Checked → Checked
+abbrev pub pick_checked : Bool → Option ℤ → Option ℤ → Option ℤ
 pick_checked true a b = a
 pick_checked false a b = b
 
--- z, or the overflow where 64 bits do not hold it
-abbrev pub bounded : ℤ → Checked
-bounded z = pick_checked (fits z) (Value z) Overflow
+-- z, or none where 64 bits do not hold it
+abbrev pub bounded : ℤ → Option ℤ
+bounded z = pick_checked (fits z) (Some z) None
 
 -- Whether the quotient q of a magnitude divided by d, with the remainder r, is rounded up: more than a half is, and "an exact half to the
 -- even neighbour" (document 02, S-9), so where q is odd. The rule for a half stands in this line alone.

@@ -4,66 +4,29 @@
 ghost use Rattle.std.specs.Prelude.{◌≡◌, ◌^◌, ◌≤◌, ◌<◌, ◌+ℤ◌, ◌-ℤ◌, nat_abs};
 ghost use Rattle.arith.specs.Integer.{bounded, rounds_up, rounded, on_side, quotient};
 
-// A sum or difference, or that it leaves 64 bits.
-#[derive(Drop)]
-pub enum Checked {
-    Value(i64),
-    Overflow,
-}
-
-// Where y is below 0 the sum leaves the range from x = edge down, elsewhere above x = edge.
-// Both arms of the edge have the same bits, so that this compiles to one comparison and to no branch on the sign of y.
-pub fn add(x: i64, y: i64) -> Checked
+// The sum, or none where it leaves 64 bits.
+#[tactic(auto, using(crate::proofs::Sums::checked))]
+pub fn add(x: i64, y: i64) -> Option<i64>
     ensures { result ≡ bounded (x +ℤ y) }
 {
-    let edge = if y < 0 {
-        i64::MIN - (y + 1)
-    } else {
-        i64::MAX - y
-    };
-    if (edge < x) == (y < 0) {
-        let sum = x + y;
-        Checked::Value(sum)
-    } else {
-        Checked::Overflow
-    }
+    x.checked_add(y)
 }
 
-// As `add`, with the low end where y is above 0.
-pub fn subtract(x: i64, y: i64) -> Checked
+// The difference, or none where it leaves 64 bits.
+#[tactic(auto, using(crate::proofs::Sums::checked))]
+pub fn subtract(x: i64, y: i64) -> Option<i64>
     ensures { result ≡ bounded (x -ℤ y) }
 {
-    let edge = if 0 < y {
-        i64::MIN + (y - 1)
-    } else {
-        i64::MAX + y
-    };
-    if (edge < x) == (0 < y) {
-        let difference = x - y;
-        Checked::Value(difference)
-    } else {
-        Checked::Overflow
-    }
+    x.checked_sub(y)
 }
 
-// A number's distance from 0. The lowest number's is 2^63, so it goes by way of -1 - x, which fits.
-fn magnitude(x: i64) -> u64
-    ensures { result ≡ nat_abs x }
-{
-    if x < 0 {
-        ((-1 - x) as u64) + 1
-    } else {
-        x as u64
-    }
-}
-
-// The number at the distance q from 0, on the side of x.
+// The number at the distance q from 0, on the side of x. Below 0 by the bits, since q as a number may be 2^63.
 fn on_side(x: i64, q: u64) -> i64
     requires { q ≤ nat_abs x }
     ensures { result ≡ on_side x q }
 {
     if x < 0 {
-        if q == 0 { 0 } else { -1 - ((q - 1) as i64) }
+        q.wrapping_neg().cast_signed()
     } else {
         q as i64
     }
@@ -95,5 +58,5 @@ pub fn divide(x: i64, d: u64) -> i64
     requires { (1 ≤ d) × (d ≤ 1000000) }
     ensures { result ≡ quotient x d }
 {
-    on_side(x, divide_magnitude(magnitude(x), d))
+    on_side(x, divide_magnitude(x.unsigned_abs(), d))
 }

@@ -1,9 +1,7 @@
 -- Bodies that are taken and refused, rule by rule, and what their bytes say, operation by operation. Assumes nothing.
-use Rattle.std.specs.Prelude.{ℕ, ◌-◌, ◌^◌, ◌≡◌, refl, List, [], ◌∷◌, ◌++◌, map, length, replicate, take, pos, negsuc}
+use Rattle.std.specs.Prelude.{Option, Some, None, ℕ, ◌-◌, ◌^◌, ◌≡◌, refl, List, [], ◌∷◌, ◌++◌, map, length, replicate, take, pos, negsuc}
 use Rattle.operation.specs.declared.Operation.{Operation}
 use Rattle.operation.specs.declared.Operation.TheVariants.{Load, Store, Set, Add, Subtract, Skip, Fail, Divide}
-use Rattle.operation.specs.declared.Decoded.{Decoded}
-use Rattle.operation.specs.declared.Decoded.TheVariants.{WellFormed, Malformed}
 use Rattle.operation.specs.Body.{register_count, longest_skip, most_divisor, listed, operations, allowed, each, is_well_formed, decoded}
 use Rattle.operation.specs.Encode.{Row, written, encode}
 
@@ -24,14 +22,14 @@ fails m = written (replicate m (6, 0, 0, 0))
 
 -- the most operations, the number of objects, a body, and what decoding it answers
 abbrev Example : Type 0
-Example = ℕ × ℕ × List ℕ × Decoded
+Example = ℕ × ℕ × List ℕ × Option ℕ
 
 -- at most 16 operations over 3 objects
 abbrev taken : ℕ → List ℕ → Example
-taken m b = (16, 3, b, WellFormed m)
+taken m b = (16, 3, b, Some m)
 
 abbrev refused : List ℕ → Example
-refused b = (16, 3, b, Malformed)
+refused b = (16, 3, b, None)
 
 unfoldable pub examples : List Example
 examples =
@@ -43,10 +41,10 @@ examples =
     ∷ refused (one (1, 4, 2, 0))
     ∷ refused (one (1, 3, 3, 0))
     ∷ refused (one (1, 3, 2, 2 ^ 56))
-    ∷ (16, 1, one (0, 1, 0, 0), WellFormed 1)  -- the one object
-    ∷ (16, 1, one (1, 0, 1, 0), Malformed)
-    ∷ (16, 128, one (0, 0, 127, 0), WellFormed 1)
-    ∷ (16, 128, one (1, 0, 128, 0), Malformed)
+    ∷ (16, 1, one (0, 1, 0, 0), Some 1)  -- the one object
+    ∷ (16, 1, one (1, 0, 1, 0), None)
+    ∷ (16, 128, one (0, 0, 127, 0), Some 1)
+    ∷ (16, 128, one (1, 0, 128, 0), None)
     ∷ taken 1 (one (2, 3, 0, 0))  -- set
     ∷ taken 1 (one (2, 0, 0, 2 ^ 64 - 1))  -- to -1
     ∷ refused (one (2, 4, 0, 0))
@@ -69,8 +67,8 @@ examples =
     ∷ taken 5 (third (5, 2, 2, 0))  -- the third of five may pass over two, not three
     ∷ refused (third (5, 2, 3, 0))
     ∷ taken 16 (before 15 (5, 3, 15, 0))
-    ∷ (17, 3, before 16 (5, 3, 15, 0), WellFormed 17)
-    ∷ (17, 3, before 16 (5, 3, 16, 0), Malformed)  -- more than 15
+    ∷ (17, 3, before 16 (5, 3, 15, 0), Some 17)
+    ∷ (17, 3, before 16 (5, 3, 16, 0), None)  -- more than 15
     ∷ taken 1 (one (6, 0, 0, 0))  -- fail
     ∷ refused (one (6, 1, 0, 0))
     ∷ refused (one (6, 0, 1, 0))
@@ -89,8 +87,8 @@ examples =
     ∷ refused (fails 0)
     ∷ taken 16 (fails 16)
     ∷ refused (fails 17)
-    ∷ (8, 3, fails 8, WellFormed 8)
-    ∷ (8, 3, fails 9, Malformed)
+    ∷ (8, 3, fails 8, Some 8)
+    ∷ (8, 3, fails 9, None)
     ∷ refused (take 22 (fails 2))  -- one byte short
     ∷ refused (fails 2 ++ (0 ∷ []))  -- one byte long
     ∷ []
@@ -164,7 +162,7 @@ readings = (bytes, said, 3) ∷ (encode said, said, 3) ∷ (encode program, prog
 
 pub readings-hold :
     (map (λ e. operations e.0) readings ≡ map (λ e. e.1) readings)
-    × (map (λ e. decoded 16 e.2 e.0) readings ≡ map (λ e. WellFormed (length e.1)) readings)
+    × (map (λ e. decoded 16 e.2 e.0) readings ≡ map (λ e. Some (length e.1)) readings)
     × (encode said ≡ bytes)
 unfolding readings bytes said program encode written operations listed decoded is_well_formed each allowed register_count longest_skip most_divisor
 readings-hold = (refl, refl, refl)

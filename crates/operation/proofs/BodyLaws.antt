@@ -1,5 +1,5 @@
 -- What follows from `specs/BodyLaws`. Assumes nothing.
-use Rattle.std.specs.Prelude.{ℕ, zero, suc, ◌+◌, ◌-◌, ◌*◌, ◌^◌, ◌≤◌, ◌<◌, ◌≡◌, refl, Bool, true, false, ◌&&◌, T, ltb, length, get_or, drop}
+use Rattle.std.specs.Prelude.{Some, None, ℕ, zero, suc, ◌+◌, ◌-◌, ◌*◌, ◌^◌, ◌≤◌, ◌<◌, ◌≡◌, refl, Bool, true, false, ◌&&◌, T, ltb, length, get_or, drop}
 use Rattle.std.proofs.Common.{sym, ap, subst, ◌∙◌, ⊎_elim, eq-or-lt_of_le, le_of_suc-le-suc, arith, length-drop, drop-cons, ltb-true, ltb-false, leb-true, eqb-true, lt-ltb, le-leb, eq-eqb, to_z}
 use Rattle.std.proofs.Math.Option.{some}
 use mathlib.Core.List.{List, [], ◌∷◌, head?}
@@ -8,7 +8,6 @@ use Rattle.std.specs.Int.{w64}
 use Rattle.arith.specs.Integer.{fits}
 use Rattle.operation.specs.declared.Operation.{Operation}
 use Rattle.operation.specs.declared.Operation.TheVariants.{Load, Store, Set, Add, Subtract, Skip, Fail, Divide}
-use Rattle.operation.specs.declared.Decoded.TheVariants.{WellFormed, Malformed}
 use Rattle.operation.specs.Body.{register_count, size, kind_byte, first_byte, second_byte, constant_word}
 use Rattle.operation.specs.Body.{operation_of, operation_at, listed, operations, allowed, allowed_at, each, is_well_formed, pick_decoded, decoded}
 use Rattle.operation.specs.BodyLaws.{Place, Formed, Valid}
@@ -110,19 +109,19 @@ well_formed {limit} {n} {b} f =
     (true-each (allowed_at n b) (size b) f.all)
 
 -- what a decoder's answer tells
-pub taken : (limit n m : ℕ) (b : List ℕ) → decoded limit n b ≡ WellFormed m → (is_well_formed limit n b ≡ true) × (m ≡ size b)
+pub taken : (limit n m : ℕ) (b : List ℕ) → decoded limit n b ≡ Some m → (is_well_formed limit n b ≡ true) × (m ≡ size b)
 unfolding decoded
 taken limit n m b h = by (is_well_formed limit n b) h
   where
-    by : (t : Bool) → pick_decoded t (WellFormed (size b)) Malformed ≡ WellFormed m → (t ≡ true) × (m ≡ size b)
+    by : (t : Bool) → pick_decoded t (Some (size b)) None ≡ Some m → (t ≡ true) × (m ≡ size b)
     by true e = (refl, (cc))
     by false e = let z : ◌≡◌ {A = ℕ} 0 1 = cc in absurd (omega arith)
 
-pub refused : (limit n : ℕ) (b : List ℕ) → decoded limit n b ≡ Malformed → is_well_formed limit n b ≡ false
+pub refused : (limit n : ℕ) (b : List ℕ) → decoded limit n b ≡ None → is_well_formed limit n b ≡ false
 unfolding decoded
 refused limit n b h = by (is_well_formed limit n b) h
   where
-    by : (t : Bool) → pick_decoded t (WellFormed (size b)) Malformed ≡ Malformed → t ≡ false
+    by : (t : Bool) → pick_decoded t (Some (size b)) None ≡ None → t ≡ false
     by true e = let z : ◌≡◌ {A = ℕ} 0 1 = cc in absurd (omega arith)
     by false e = refl
 

@@ -1,13 +1,11 @@
 -- A transaction's body (document 01, "A job's body"): what its bytes mean, operation by operation, and when it is well formed.
 -- Assumes nothing.
-use Rattle.std.specs.Prelude.{ℕ, zero, suc, ◌+◌, ◌-◌, ◌*◌, List, [], ◌∷◌, Bool, true, false, ◌&&◌, length, get_or, ltb, leb, eqb}
+use Rattle.std.specs.Prelude.{Option, Some, None, ℕ, zero, suc, ◌+◌, ◌-◌, ◌*◌, List, [], ◌∷◌, Bool, true, false, ◌&&◌, length, get_or, ltb, leb, eqb}
 use Rattle.std.specs.Int.{w64}
 use Rattle.std.proofs.Common.{to_z}
 use Rattle.words.specs.Words.{loaded}
 use Rattle.operation.specs.declared.Operation.{Operation}
 use Rattle.operation.specs.declared.Operation.TheVariants.{Load, Store, Set, Add, Subtract, Skip, Fail, Divide}
-use Rattle.operation.specs.declared.Decoded.{Decoded}
-use Rattle.operation.specs.declared.Decoded.TheVariants.{WellFormed, Malformed}
 
 -- "four registers"
 unfoldable pub register_count : ℕ
@@ -104,10 +102,10 @@ unfoldable pub is_well_formed : ℕ → ℕ → List ℕ → Bool
 is_well_formed most n b =
     leb 1 (size b) && leb (size b) most && eqb (length b) (body_length (size b)) && each (allowed_at n b) (size b)
 
-abbrev pub pick_decoded : Bool → Decoded → Decoded → Decoded
+abbrev pub pick_decoded : Bool → Option ℕ → Option ℕ → Option ℕ
 pick_decoded true a b = a
 pick_decoded false a b = b
 
--- what decoding a whole body answers
-unfoldable pub decoded : ℕ → ℕ → List ℕ → Decoded
-decoded most n b = pick_decoded (is_well_formed most n b) (WellFormed (size b)) Malformed
+-- what decoding a whole body answers: the number of its operations, or none where it breaks a rule
+unfoldable pub decoded : ℕ → ℕ → List ℕ → Option ℕ
+decoded most n b = pick_decoded (is_well_formed most n b) (Some (size b)) None

@@ -1,12 +1,17 @@
 -- The rules as `decode` tests them, a column for each limit, and that these tests are the rules of specs/Body.antt.
 -- A skip's limit is `second + i < m`, so that no column changes from one operation to the next. Assumes nothing.
 use Prim.Native.Nat.{ℕ, ◌+◌, ◌*◌}
-use Rattle.std.specs.Prelude.{[], ◌∷◌, Bool, ◌&&◌, get_or, ltb}
+use Rattle.std.specs.Prelude.{◌≤◌, ◌≡◌, List, [], ◌∷◌, Bool, ◌&&◌, length, get_or, ltb}
 use Rattle.std.proofs.Math.Dec.{leb}
+use Rattle.operation.specs.Body.{size, body_length}
 
 -- No limit may allow more operations than this: a skip that does not reach past the end is then at most 15 long.
 abbrev pub most_operations : ℕ
 most_operations = 16
+
+-- a body of m operations, at most so many, and of their length: what the tests of its operations ask before
+abbrev pub Measured : List ℕ → ℕ → Type 0
+Measured b m = (m ≡ size b) × (m ≤ most_operations) × (length b ≡ body_length m)
 
 abbrev pub first_bound : ℕ → ℕ
 first_bound kind = get_or (4 ∷ 4 ∷ 4 ∷ 4 ∷ 4 ∷ 4 ∷ 1 ∷ 4 ∷ []) kind 0

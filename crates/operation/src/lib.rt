@@ -17,18 +17,11 @@ pub enum Operation {
     Divide(usize, u64),
 }
 
-// What decoding a whole body gives: the number of its operations, or the answer that it breaks a rule.
-#[derive(Drop)]
-pub enum Decoded {
-    WellFormed(usize),
-    Malformed,
-}
-
 // A byte as a number.
 pub fn small(x: u8) -> usize
     ensures { (result ≡ x) × (result < 256) }
 {
-    x as usize
+    usize::from(x)
 }
 
 // How many bytes a body of m operations has.

@@ -2,9 +2,9 @@
 // decide.
 #![tactic(auto)]
 
-ghost use Rattle.std.specs.Prelude.{◌≡◌, ◌≤◌, length};
-ghost use Rattle.operation.specs.Body.{body_length, size, allowed_at, each};
-ghost use Rattle.operation.specs.Columns.{most_operations};
+ghost use Rattle.std.specs.Prelude.{◌≡◌};
+ghost use Rattle.operation.specs.Body.{allowed_at, each};
+ghost use Rattle.operation.specs.Columns.{Measured};
 ghost use Rattle.operation_plain.specs.Plain.{Sound, forbidden_in};
 
 // What a constant of this kind has that is to be 0: all of it, but for a set's. Quicker than a mask from an array.
@@ -17,24 +17,22 @@ fn forbidden(kind: usize, constant: u64) -> u64
 // Whether each of the m operations is of a plain kind, load to subtract, and keeps its rules, two limits and a constant of 0 (but for set). Where it
 // is false, nothing is said. Early exits for the kind and the second limit; registers and constants are collected, and looked at once at the end.
 pub fn plainly_allowed(body: &[u8], m: usize, objects: usize) -> bool
-    requires { (m ≡ size body.now) × (m ≤ most_operations) × (length body.now ≡ body_length m) }
+    requires { Measured body.now m }
     ensures { Sound result (each (allowed_at objects body.now) m) }
 {
     let below = [objects, objects, 1, 4, 4];
     let mut firsts: u8 = 0;
     let mut seen: u64 = 0;
-    let mut i = 0;
-    while i < m {
+    for i in 0..m {
         let kind = operation::small(body[1 + 3 * i]);
         if 5 <= kind {
             return false;
         }
-        firsts = firsts | body[2 + 3 * i];
+        firsts |= body[2 + 3 * i];
         if below[kind] <= operation::small(body[3 + 3 * i]) {
             return false;
         }
-        seen = seen | forbidden(kind, words::load(body, 1 + 3 * m + 8 * i));
-        i += 1;
+        seen |= forbidden(kind, words::load(body, 1 + 3 * m + 8 * i));
     }
     (firsts < 4) & (seen == 0)
 }

@@ -5,12 +5,8 @@ use Rattle.cells.specs.CellLaws.{length-cells}
 use Rattle.cells.specs.Zeros.{scan_step}
 use Rattle.cells.proofs.cells_zero.Goals as goal
 
-pub loop-i-preserved : goal.loop-i-preserved
-loop-i-preserved c =
+pub loop-cell-preserved : goal.loop-cell-preserved
+loop-cell-preserved c =
     let a = c.args in
-    let i = c.loop-i in
-    record {
-      from_low = omega arith;
-      to_high = omega arith;
-      seen_so_far = rw c.get-seen.ensures (i.invariant.seen_so_far ∙ scan_step (cells a.area.now) i.seen i.i a.to (omega arith) (omega (arith, length-cells a.area.now)));
-    }
+    let l = c.loop-cell in
+    rw c.get-seen.ensures (l.invariant ∙ scan_step (cells a.area.now) l.seen l.cell a.to (omega arith) (omega (arith, length-cells a.area.now)))

@@ -1,13 +1,7 @@
--- After `done` turns as many bytes are 0.
-use Rattle.std.proofs.Common.{◌≡◌, ◌≤◌, ◌-◌, replicate}
+-- The bytes below i are 0.
+use Rattle.std.proofs.Common.{◌≡◌, ◌-◌, replicate}
 use Rattle.std.proofs.Math.Seq.{paste}
 use Rattle.cells.proofs.fill_zero.Given as goal
 
-abbrev pub invariant-loop-done : goal.invariant-loop-done
-invariant-loop-done l = record {
-  within : l.done ≤ l.n;
-  filled : l.area ≡ paste l.initial.area l.from (replicate l.n 0) l.done;
-}
-
-abbrev pub decreases-loop-done : goal.decreases-loop-done
-decreases-loop-done l = l.n - l.done
+abbrev pub invariant-loop-i : goal.invariant-loop-i
+invariant-loop-i l = l.area ≡ paste l.initial.area l.from (replicate (l.to - l.from) 0) (l.i - l.from)

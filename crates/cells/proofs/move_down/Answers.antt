@@ -25,15 +25,12 @@ loop-k-preserved c =
     let s : List ℕ = take a.len (drop a.from d) in
     let fits : a.from + a.len ≤ length d = omega arith in
     let less : i.k < length s = rw (size d a.from a.len fits) (omega arith) in
-    let same : get_or i.area (a.from + i.k) 0 ≡ get_or s i.k 0 = ahead d a.from a.len fits i.area a.to i.k i.invariant.copied (omega arith) (omega arith) in
-    record {
-      within = omega arith;
-      copied = copy_step d s i.area a.to i.k i.invariant.copied _ (omega arith) less same;
-    }
+    let same : get_or i.area (a.from + i.k) 0 ≡ get_or s i.k 0 = ahead d a.from a.len fits i.area a.to i.k i.invariant (omega arith) (omega arith) in
+    copy_step d s i.area a.to i.k i.invariant _ (omega arith) less same
 
 pub returns : goal.returns
 returns c =
     let i = c.loop-k in
     let a = c.args in
     let d : List ℕ = a.area.now in
-    copy_done d (take a.len (drop a.from d)) i.area a.to i.k i.invariant.copied (omega (arith, size d a.from a.len (omega arith)))
+    copy_done d (take a.len (drop a.from d)) i.area a.to i.k i.invariant (omega (arith, size d a.from a.len (omega arith)))

@@ -7,7 +7,7 @@ use Rattle.operation_columns.proofs.each_allowed.Goals as goal
 
 pub loop-i-init : goal.loop-i-init
 unfolding each
-loop-i-init c = record { passed = omega arith; hold = refl }
+loop-i-init c = refl
 
 pub returns-then-kind-ge8 : goal.returns-then-kind-ge8
 returns-then-kind-ge8 c =
@@ -33,7 +33,4 @@ loop-i-preserved c =
     tested_at a.body.now a.objects a.m c.loop-i.i _ _ _ _
     c.requires.0 c.small-kind.ensures.0 c.small-first.ensures.0 c.small-second.ensures.0 c.load-constant.ensures
     (omega arith) (omega arith) (omega arith) (omega arith) in
-    record {
-      passed = omega arith;
-      hold = rw (add-one, c.loop-i.invariant.hold) (t ∙ c.if-not-allowed.false);
-    }
+    rw (add-one, c.loop-i.invariant) (t ∙ c.if-not-allowed.false)

@@ -6,16 +6,13 @@ use Rattle.operation_plain.proofs.plainly_allowed.Goals as goal
 
 pub loop-i-init : goal.loop-i-init
 unfolding each
-loop-i-init c = record { passed = omega arith; hold = λ l e. refl }
+loop-i-init c = λ l e. refl
 
 pub loop-i-preserved : goal.loop-i-preserved
 loop-i-preserved c =
     let a = c.args in
     let l = c.loop-i in
-    record {
-      passed = omega arith;
-      hold = λ low none.
-          plain_turn a.body.now a.objects a.m l.i c.requires.0 l.firsts l.seen l.invariant.hold _ _ _ _
-          c.small-kind.ensures.0 refl c.small.ensures.0 c.load.ensures c.if-kind-ge5.false c.if-below-kind.false low
-          (rw c.forbidden-seen.ensures at none);
-    }
+    λ low none.
+    plain_turn a.body.now a.objects a.m l.i c.requires.0 l.firsts l.seen l.invariant _ _ _ _
+    c.small-kind.ensures.0 refl c.small.ensures.0 c.load.ensures (omega arith) c.if-below-kind.false low
+    (rw c.forbidden-seen.ensures at none)

@@ -7,8 +7,4 @@ pub loop-i-preserved : goal.loop-i-preserved
 loop-i-preserved c =
     let i = c.loop-i in
     let a = c.args in
-    record {
-      from_low = omega arith;
-      to_high = omega arith;
-      seen_so_far = i.invariant.seen_so_far ∙ scan_step a.area.now i.seen i.i a.to (omega arith) (omega arith);
-    }
+    i.invariant ∙ scan_step a.area.now i.seen i.i a.to (omega arith) (omega arith)

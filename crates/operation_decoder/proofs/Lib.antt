@@ -1,0 +1,2 @@
+-- What the proofs of `operation_decoder` share.
+pub mod First
