@@ -1,11 +1,8 @@
--- Laws of `listed`: equal elements, a list as its elements, a set that stands in two arrays, and a turn of a loop that fills an array.
+-- Laws of `listed`: equal elements, a list as its elements, one element more, and a turn of a loop that fills an array.
 -- Assumes nothing.
-use Rattle.std.specs.Prelude.{◌≡◌, refl, List, [], ◌∷◌, ℕ, zero, suc, ◌+◌, ◌≤◌, ◌<◌, ℤ, pos, length, get_or, set, take}
+use Rattle.std.specs.Prelude.{◌≡◌, refl, List, [], ◌∷◌, ◌++◌, ℕ, zero, suc, ◌+◌, ◌≤◌, ◌<◌, length, get_or, set, take}
 use Rattle.std.proofs.Common.{sym, ap, ap₂, ◌∙◌, arith, get_or-set_same, get_or-set_other, take_all, below_more}
 use Rattle.operation.specs.Body.{listed}
-use Rattle.operation.proofs.BodyLaws.{length-listed}
-use Rattle.execution.specs.Entries.{Entry, entry}
-use Rattle.execution.specs.Arrays.{nth_entry, entries}
 
 pub listed_same : {A : Type 0} (f g : ℕ → A) (n : ℕ) → ((k : ℕ) → k < n → f k ≡ g k) → listed f n ≡ listed g n
 unfolding listed
@@ -18,15 +15,11 @@ unfolding listed
 listed_of [] d = refl
 listed_of (x ∷ xs) d = ap (x ∷◌) (listed_of xs d)
 
--- how many entries two arrays hold
-pub length-entries : (n : ℕ) (os : List ℕ) (vs : List ℤ) → length (entries n os vs) ≡ n
-unfolding entries
-length-entries n os vs = length-listed (nth_entry os vs) n
-
-pub entries-same : (n : ℕ) (os : List ℕ) (vs : List ℤ) (f : ℕ → Entry) → ((k : ℕ) → k < n → get_or os k 0 ≡ (f k).object)
-    → ((k : ℕ) → k < n → get_or vs k (pos 0) ≡ (f k).value) → entries n os vs ≡ listed f n
-unfolding entries
-entries-same n os vs f h g = listed_same (nth_entry os vs) f n (λ k l. let a = h k l in let b = g k l in λ i. entry (a i) (b i))
+-- one element more at the end
+pub listed-next : {A : Type 0} (f : ℕ → A) (n : ℕ) → listed f (suc n) ≡ listed f n ++ f n ∷ []
+unfolding listed
+listed-next f zero = refl
+listed-next f (suc n) = ap (f 0 ∷◌) (listed-next (λ i. f (suc i)) n)
 
 -- the first i elements are f's; one more is stored
 pub fill_next : {A : Type 0} (f : ℕ → A) (d : A) (xs : List A) (i : ℕ) (v : A) → i < length xs → ((k : ℕ) → k < i → get_or xs k d ≡ f k) → v ≡ f i

@@ -1,11 +1,11 @@
--- A table beside a set of n entries: agreement with a read set, and a write set laid over it from its last entry on. Entry i is f i, wherever it stands.
+-- A table beside a set: agreement with a read set, and a write set laid over it from its last entry on. Entry i of n is f i, wherever it stands.
 -- Assumes nothing.
-use Prim.Native.Nat.{ℕ, zero, suc, ◌≤◌, ◌<◌}
-use Rattle.std.specs.Prelude.{◌≡◌, Bool, true, false, cond, List, [], ◌∷◌, ℤ, pos, eqb, set, drop}
+use Prim.Native.Nat.{ℕ, zero, suc, ◌<◌}
+use Rattle.std.specs.Prelude.{◌≡◌, Bool, true, false, cond, List, [], ◌∷◌, ◌++◌, ℤ, pos, eqb, set, drop}
 use Rattle.std.proofs.Math.Path.{refl, fun_ext}
 use Rattle.std.proofs.Common.{sym, ◌∙◌, arith, length-set, get_or-set_same, get_or-set_other, eqb-true, ltb-true}
 use Rattle.std.proofs.Math.Bool.{and-false}
-use Rattle.std.proofs.Math.Option.{some, get_or}
+use Rattle.std.proofs.Math.Option.{none, some, get_or}
 use Rattle.std.proofs.lemmas.Bool.{eqb-false}
 use Rattle.arith.specs.Integer.{eq_z, fits}
 use Rattle.arith.proofs.IntegerLaws.{eq_eq_z, ne_eq_z}
@@ -49,37 +49,49 @@ every-at q f zero i l e = absurd (omega arith)
 every-at q f (suc n) zero l e = (both (q (f 0)) _ e).0
 every-at q f (suc n) (suc i) l e = every-at q (λ k. f (suc k)) n i (omega arith) (both (q (f 0)) _ e).1
 
--- n entries, entry i is f i, over the table `first`
-module _ (f : ℕ → Entry) (n : ℕ) (first : List ℤ) where
-  -- `table` is `first` with the entries from i on laid over it
-  pub record Laid (table : List ℤ) (i : ℕ) : Type 0 where
-    pub within : i ≤ n
+-- a set's last entry is laid first
+last-laid : (l : List Entry) (e : Entry) (table : List ℤ) (o : ℕ) → e.object < object_count table
+    → get_or (lookup (l ++ e ∷ []) o) (value_of table o) ≡ get_or (lookup l o) (value_of (set table e.object e.value) o)
+last-laid [] e table o h = at (eqb e.object o) refl
+  where
+    at : (t : Bool) → eqb e.object o ≡ t → get_or (cond t (some e.value) none) (value_of table o) ≡ value_of (set table e.object e.value) o
+    at true q = sym (rw (← (eqb-true e.object o q)) (get_or-set_same table e.object e.value (pos 0) h))
+    at false q = sym (get_or-set_other table e.object o e.value (pos 0) (λ d. eqb-false e.object o q (sym d)))
+last-laid (x ∷ l) e table o h =
+    let rest = last-laid l e table o h in
+    elim (eqb x.object o) as (λ t. get_or (cond t (some x.value) (lookup (l ++ e ∷ []) o)) (value_of table o) ≡ get_or (cond t (some x.value) (lookup l o)) (value_of (set table e.object e.value) o)) [ true ↦ refl | false ↦ rest ]
+
+every-last : (q : Entry → Bool) (l : List Entry) (e : Entry) → every q (l ++ e ∷ []) ≡ true → (every q l ≡ true) × (q e ≡ true)
+every-last q [] e h = (refl, (both (q e) true h).0)
+every-last q (x ∷ l) e h =
+    let k = both (q x) _ h in
+    let r = every-last q l e k.1 in
+    (rw (k.0, r.0), r.1)
+
+-- the set `writes` over the table `first`
+module _ (first : List ℤ) (writes : List Entry) where
+  -- `table` is `first` with the last entries laid over it; `rest` are those before them
+  pub record Laid (rest : List Entry) (table : List ℤ) : Type 0 where
+    pub inside : every (sound (object_count first)) rest ≡ true
     pub same : object_count table ≡ object_count first
-    pub values : (o : ℕ) → value_of table o ≡ get_or (lookup (drop i (listed f n)) o) (value_of first o)
+    pub values : (o : ℕ) → get_or (lookup rest o) (value_of table o) ≡ get_or (lookup writes o) (value_of first o)
 
-  pub laid_none : Laid first n
-  laid_none = record { within = omega arith; same = refl; values = λ o. rw (drop-end f n) }
+  pub laid_none : every (sound (object_count first)) writes ≡ true → Laid writes first
+  laid_none h = record { inside = h; same = refl; values = λ o. refl }
 
-  pub in_table : every (sound (object_count first)) (listed f n) ≡ true → (i : ℕ) → i < n → (f i).object < object_count first
-  in_table e i l =
-      let h = every-at (sound (object_count first)) f n i l e in
-      ltb-true _ _ (both _ (fits (f i).value) h).0
+  pub in_table : (rest : List Entry) (e : Entry) (table : List ℤ) → Laid (rest ++ e ∷ []) table → e.object < object_count table
+  in_table rest e table k =
+      let h = (every-last (sound (object_count first)) rest e k.inside).1 in
+      let below = ltb-true _ _ (both _ (fits e.value) h).0 in
+      omega (arith, k.same)
 
-  pub laid_one : (table : List ℤ) (i : ℕ) → i < n → (f i).object < object_count first → Laid table (suc i) → Laid (set table (f i).object (f i).value) i
-  laid_one table i l h k =
+  pub laid_one : (rest : List Entry) (e : Entry) (table : List ℤ) → Laid (rest ++ e ∷ []) table → Laid rest (set table e.object e.value)
+  laid_one rest e table k =
       record {
-        within = omega arith;
-        same = length-set table (f i).object (f i).value ∙ k.same;
-        values = λ o. rw (drop-next f n i l) (at o (eqb (f i).object o) refl);
+        inside = (every-last (sound (object_count first)) rest e k.inside).0;
+        same = length-set table e.object e.value ∙ k.same;
+        values = λ o. sym (last-laid rest e table o (in_table rest e table k)) ∙ k.values o;
       }
-    where
-      at : (o : ℕ) (t : Bool) → eqb (f i).object o ≡ t
-          → value_of (set table (f i).object (f i).value) o ≡ get_or (cond t (some (f i).value) (lookup (drop (suc i) (listed f n)) o)) (value_of first o)
-      at o true e =
-          let s = k.same in
-          rw (← (eqb-true (f i).object o e)) (get_or-set_same table (f i).object (f i).value (pos 0) (omega arith))
-      at o false e =
-          get_or-set_other table (f i).object o (f i).value (pos 0) (λ q. eqb-false (f i).object o e (sym q)) ∙ k.values o
 
-  pub laid-all : (table : List ℤ) → Laid table 0 → (b : Beside) → table_of table b ≡ over (listed f n) (table_of first b)
+  pub laid-all : (table : List ℤ) → Laid [] table → (b : Beside) → table_of table b ≡ over writes (table_of first b)
   laid-all table k b j = record { look = fun_ext k.values j; stamp = b.stamp; allow = b.allow }

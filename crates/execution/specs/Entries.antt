@@ -1,10 +1,11 @@
 -- A read set or a write set: objects with their values, no object twice. Assumes nothing.
 use Rattle.std.specs.Prelude.{cond, List, [], ◌∷◌, ◌++◌, ℕ, ℤ, eqb}
 use Rattle.std.proofs.Math.Option.{Option, none, some}
+use Rattle.execution.specs.declared.Entry as declared
 
-pub record Entry : Type 0 where
-  pub object : ℕ
-  pub value : ℤ
+-- the struct of src/, under the name that other crates import: a re-export of what src/ declares ends at the crate
+abbrev pub Entry : Type 0
+Entry = declared.Entry
 
 abbrev pub entry : ℕ → ℤ → Entry
 entry o v = record { object = o; value = v }

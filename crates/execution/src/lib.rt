@@ -9,13 +9,19 @@ ghost use Rattle.execution.specs.Bounds.{inside};
 ghost use Rattle.execution.specs.LentTable.{cell_bounds};
 ghost use Rattle.execution.specs.Run.{Beside, table_of, object_count, is_none, due_at, over};
 ghost use Rattle.execution.specs.RunShape.{every, sound};
-ghost use Rattle.execution.specs.Arrays.{capacity, entries};
 
-// How far a run has come: its program counter and outcome, and how many entries its read set and write set have.
-// The read set's objects and values stand in the arrays ro and rv, the write set's in wo and wv.
+// An entry of a read set or a write set: an object with its value.
+#[derive(Clone, Copy, Default)]
+pub struct Entry {
+    pub object: usize,
+    pub value: i64,
+}
+
+// How far a run has come: its program counter and outcome, and how many entries its read set and write set have. Each set stands at the front of an array.
 #[derive(Clone, Copy)]
 pub struct Counts {
     pub counter: usize,
+    // a number, no enum: a fixed promise (`Run.outcome` of specs/Run, and the row's cell in docs/LAYOUT.md)
     pub outcome: usize,
     pub reads: usize,
     pub writes: usize,
@@ -52,16 +58,12 @@ pub fn allows(area: &[u8], lower: usize, value: i64) -> bool
 }
 
 // Lays a write set over a table, the last entry first, so that the first entry of an object counts.
-pub fn overlay<'a>(table: &mut [i64], wo: &'a [usize; 16], wv: &'a [i64; 16], count: usize)
-    requires { (count ≤ capacity) × (every (sound (object_count table.old)) (entries count wo.now wv.now) ≡ true) }
-    ensures table { (b : Beside) → table_of table.new b
-        ≡ over (entries count wo.now wv.now) (table_of table.old b) }
+pub fn overlay(table: &mut [i64], writes: &[Entry])
+    requires { every (sound (object_count table.old)) writes.now ≡ true }
+    ensures table { (b : Beside) → table_of table.new b ≡ over writes.now (table_of table.old b) }
     ensures size { object_count table.new ≡ object_count table.old }
 {
-    let mut i = count;
-    while 0 < i {
-        i -= 1;
-        let o = wo[i];
-        table[o] = wv[i];
+    for e in writes.iter().rev() {
+        table[e.object] = e.value;
     }
 }

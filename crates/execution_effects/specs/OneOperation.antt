@@ -1,14 +1,13 @@
 -- One operation on lent arrays: a law for each way out of the code. Assumes nothing.
-use Rattle.std.specs.Prelude.{ℕ, suc, ◌+◌, ◌≤◌, ◌<◌, ◌≡◌, refl, Bool, true, false, cond, List, ℤ, pos, get_or, set}
+use Rattle.std.specs.Prelude.{ℕ, suc, ◌+◌, ◌<◌, ◌≡◌, refl, Bool, true, false, cond, List, ℤ, get_or, set, take, Some, None}
 use Rattle.std.proofs.Common.{arith}
 use Rattle.std.proofs.Math.Numerals.{add-one}
 use Rattle.arith.specs.Integer.{fits, pick_checked, bounded}
-use Rattle.arith.specs.declared.Checked.TheVariants.{Value, Overflow}
-use Rattle.operation.specs.Body.{listed}
 use Rattle.execution.specs.declared.Counts.{Counts}
+use Rattle.execution.specs.Entries.{Entry, entry}
 use Rattle.execution.specs.Run.{Table, Stop, overflowed, outside, outcome_of, get, put, go, halt, sum, apply}
 use Rattle.execution.proofs.RunShapeLaws.{update-absent}
-use Rattle.execution.specs.Arrays.{capacity, entries, run_of_arrays, Room, Bounded}
+use Rattle.execution.specs.Arrays.{capacity, run_of_arrays, Room, Bounded}
 use Rattle.execution_effects.specs.Effects.{Found, advanced, stopped, settled}
 use Rattle.execution_effects.specs.SetPlaces.{lookup_absent, lookup-found, update_found, append-last}
 
@@ -23,57 +22,58 @@ pub settled-sum : (g : List ℤ) (r : ℕ) (z : ℤ) → settled g r (bounded z)
 unfolding sum
 settled-sum g r z = by (fits z)
   where
-    by : (t : Bool) → settled g r (pick_checked t (Value z) Overflow) ≡ cond t (go (set g r z) 0) (halt overflowed)
+    by : (t : Bool) → settled g r (pick_checked t (Some z) None) ≡ cond t (go (set g r z) 0) (halt overflowed)
     by true = refl
     by false = refl
 
-module _ (T : Table) (c : Counts) (registers : List ℤ) (ro : List ℕ) (rv : List ℤ) (wo : List ℕ) (wv : List ℤ) where
+module _ (T : Table) (c : Counts) (registers : List ℤ) (reads writes : List Entry) where
   -- new registers, and k operations passed over
-  pub went : (k : ℕ) (t : Counts) (g : List ℤ) → t ≡ advanced k c → run_of_arrays t g ro rv wo wv ≡ apply T (go g k) (run_of_arrays c registers ro rv wo wv)
+  pub went : (k : ℕ) (t : Counts) (g : List ℤ) → t ≡ advanced k c → run_of_arrays t g reads writes ≡ apply T (go g k) (run_of_arrays c registers reads writes)
   went k t g e = rw (e, add-one (c.counter + k))
 
   -- an early stop
-  pub halted : (s : Stop) (t : Counts) → t ≡ stopped (outcome_of s) c → run_of_arrays t registers ro rv wo wv ≡ apply T (halt s) (run_of_arrays c registers ro rv wo wv)
-  unfolding entries listed
+  pub halted : (s : Stop) (t : Counts) → t ≡ stopped (outcome_of s) c → run_of_arrays t registers reads writes ≡ apply T (halt s) (run_of_arrays c registers reads writes)
   halted s t e = rw (e, add-one c.counter)
 
   one_on : c.counter + 0 + 1 ≡ suc c.counter
   one_on = omega arith
 
-  module _ (r o j : ℕ) (w : Found wo c.writes o j) where
+  module _ (d : Entry) (r o : ℕ) where
     -- the own store
-    pub load_own : (t : Counts) (g : List ℤ) → j < c.writes → t ≡ advanced 0 c → g ≡ set registers r (get_or wv j (pos 0)) → run_of_arrays t g ro rv wo wv ≡ apply T (get r o) (run_of_arrays c registers ro rv wo wv)
-    load_own t g h e f = rw (e, f, one_on, lookup-found wo wv c.writes o j w h)
+    pub load_own : (j : ℕ) → Found (take c.writes writes) o (Some j) → (t : Counts) (g : List ℤ) → t ≡ advanced 0 c → g ≡ set registers r (get_or writes j d).value
+        → run_of_arrays t g reads writes ≡ apply T (get r o) (run_of_arrays c registers reads writes)
+    load_own j w t g e f = rw (e, f, one_on, lookup-found writes c.writes o d j w)
 
-    module _ (a : c.writes ≤ j) (k : ℕ) (v : Found ro c.reads o k) where
+    module _ (a : Found (take c.writes writes) o None) where
       -- the value read before
-      pub load_read : (t : Counts) (g : List ℤ) → k < c.reads → t ≡ advanced 0 c → g ≡ set registers r (get_or rv k (pos 0)) → run_of_arrays t g ro rv wo wv ≡ apply T (get r o) (run_of_arrays c registers ro rv wo wv)
-      load_read t g h e f =
-          rw (e, f, one_on, lookup_absent wo wv c.writes o j w a, lookup-found ro rv c.reads o k v h)
+      pub load_read : (k : ℕ) → Found (take c.reads reads) o (Some k) → (t : Counts) (g : List ℤ) → t ≡ advanced 0 c → g ≡ set registers r (get_or reads k d).value
+          → run_of_arrays t g reads writes ≡ apply T (get r o) (run_of_arrays c registers reads writes)
+      load_read k v t g e f =
+          rw (e, f, one_on, lookup_absent writes c.writes o a, lookup-found reads c.reads o d k v)
 
       -- the table's, recorded
       pub load_new :
-          c.reads ≤ k → c.reads < capacity → Room ro rv
-          → run_of_arrays (record { counter = c.counter + 1; outcome = 0; reads = c.reads + 1; writes = c.writes }) (set registers r (T.look o)) (set ro c.reads o) (set rv c.reads (T.look o)) wo wv
-          ≡ apply T (get r o) (run_of_arrays c registers ro rv wo wv)
-      load_new h l room =
+          Found (take c.reads reads) o None → c.reads < capacity → Room reads → (t : Counts) → t ≡ advanced 0 c
+          → run_of_arrays (record t { reads = c.reads + 1 }) (set registers r (T.look o)) (set reads c.reads (entry o (T.look o))) writes
+          ≡ apply T (get r o) (run_of_arrays c registers reads writes)
+      load_new v l room t e =
           rw
-          (add-one c.counter, add-one c.reads, lookup_absent wo wv c.writes o j w a, lookup_absent ro rv c.reads o k v h, append-last ro rv c.reads o (T.look o) room l)
+          (e, one_on, add-one c.reads, lookup_absent writes c.writes o a, lookup_absent reads c.reads o v, append-last reads c.reads o (T.look o) (omega (arith, room)))
 
   -- a store outside the bounds
-  pub store_outside : (o : ℕ) (v : ℤ) (t : Counts) → T.allow o v ≡ false → t ≡ stopped 3 c → run_of_arrays t registers ro rv wo wv ≡ apply T (put o v) (run_of_arrays c registers ro rv wo wv)
+  pub store_outside : (o : ℕ) (v : ℤ) (t : Counts) → T.allow o v ≡ false → t ≡ stopped 3 c → run_of_arrays t registers reads writes ≡ apply T (put o v) (run_of_arrays c registers reads writes)
   store_outside o v t a e = rw a (halted outside t e)
 
-  module _ (o j : ℕ) (v : ℤ) (a : T.allow o v ≡ true) (w : Found wo c.writes o j) (l : c.writes < capacity) (room : Room wo wv) where
+  module _ (o : ℕ) (v : ℤ) (a : T.allow o v ≡ true) (t : Counts) (e : t ≡ advanced 0 c) where
     -- in its place
-    pub store_again : (t : Counts) → j < c.writes → t ≡ advanced 0 c → run_of_arrays t registers ro rv (set wo j o) (set wv j v) ≡ apply T (put o v) (run_of_arrays c registers ro rv wo wv)
-    store_again t h e = rw (a, e, one_on, update_found wo wv c.writes o j w v room h (omega arith))
+    pub store_again : (d : Entry) (j : ℕ) → Found (take c.writes writes) o (Some j)
+        → run_of_arrays t registers reads (set writes j (entry o v)) ≡ apply T (put o v) (run_of_arrays c registers reads writes)
+    store_again d j w = rw (a, e, one_on, update_found writes c.writes o d j w v)
 
     -- at the end
     pub store_new :
-        c.writes ≤ j
-        → run_of_arrays (record { counter = c.counter + 1; outcome = 0; reads = c.reads; writes = c.writes + 1 }) registers ro rv (set wo j o) (set wv j v) ≡ apply T (put o v) (run_of_arrays c registers ro rv wo wv)
-    store_new h =
-        let e : j ≡ c.writes = (let z = w.within in omega arith) in
+        Found (take c.writes writes) o None → c.writes < capacity → Room writes
+        → run_of_arrays (record t { writes = c.writes + 1 }) registers reads (set writes c.writes (entry o v)) ≡ apply T (put o v) (run_of_arrays c registers reads writes)
+    store_new w l room =
         rw
-        (a, e, add-one c.counter, add-one c.writes, append-last wo wv c.writes o v room l, update-absent _ o v (lookup_absent wo wv c.writes o j w h))
+        (a, e, one_on, add-one c.writes, append-last writes c.writes o v (omega (arith, room)), update-absent _ o v (lookup_absent writes c.writes o w))

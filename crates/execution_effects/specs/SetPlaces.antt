@@ -1,82 +1,68 @@
--- Reading, changing and adding an entry of a set in two arrays. Assumes nothing.
-use Rattle.std.specs.Prelude.{ℕ, zero, suc, ◌≤◌, ◌<◌, ◌≡◌, refl, List, ◌∷◌, ℤ, pos, get_or, set}
-use Rattle.std.proofs.Common.{ap, arith, eq-eqb, ne_eqb}
-use Rattle.std.proofs.Math.Option.{none, some}
-use Rattle.std.proofs.Math.Seq.{get_or-set_same, get_or-set_other}
-use Rattle.operation.specs.Body.{listed}
+-- Reading, changing and adding an entry of a set at the front of an array. Assumes nothing.
+use Rattle.std.specs.Prelude.{ℕ, zero, suc, ◌≤◌, ◌<◌, ◌≡◌, refl, Bool, true, false, List, [], ◌∷◌, ℤ, pos, get_or, set, length, take, eqb, Some, None}
+use Rattle.std.proofs.Common.{ap, arith, sym, ltb, take-suc-set}
+use Rattle.std.proofs.Math.Option as maybe
+use Rattle.std.proofs.Math.Seq.{take-set-lt}
+use Rattle.std.specs.List.{position, position_or_len}
+use Rattle.std.proofs.lemmas.List.Quantifiers.{position-Some}
+use Rattle.std.proofs.lemmas.List.Sums.{fails_before_first}
+use Rattle.std.proofs.lemmas.List.{length-take, get_or-take}
+use borrow.Author.Tests.{ltb-false}
 use Rattle.execution.specs.Entries.{Entry, entry, lookup, update, append}
-use Rattle.execution.specs.Arrays.{capacity, nth_entry, entries, Room}
 use Rattle.execution_effects.specs.Effects.{Found}
 
--- ---- entries given by a function
+-- ---- an object's first place
 
-same : (f g : ℕ → Entry) (n : ℕ) → ((k : ℕ) → k < n → g k ≡ f k) → listed g n ≡ listed f n
-unfolding listed
-same f g zero h = refl
-same f g (suc n) h =
-    let e = h 0 (omega arith) in
-    let t = same (λ i. f (suc i)) (λ i. g (suc i)) n (λ k l. h (suc k) (omega arith)) in
-    rw (e, t)
+abbrev names : ℕ → Entry → Bool
+names o e = eqb e.object o
 
-absent : (f : ℕ → Entry) (n o : ℕ) → ((k : ℕ) → k < n → (f k).object ≡ o → ⊥) → lookup (listed f n) o ≡ none
-unfolding listed
-absent f zero o h = refl
-absent f (suc n) o h =
-    rw (ne_eqb (f 0).object o (h 0 (omega arith))) (absent (λ i. f (suc i)) n o (λ k l. h (suc k) (omega arith)))
+-- at no place
+none_before : (es : List Entry) (o : ℕ) → None ≡ position (names o) es → length es ≤ position_or_len (names o) es
+none_before es o h = by (ltb (position_or_len (names o) es) (length es)) refl
+  where
+    by : (t : Bool) → ltb (position_or_len (names o) es) (length es) ≡ t → length es ≤ position_or_len (names o) es
+    by true e = absurd (let f = rw e at h in cc)
+    by false e = ltb-false _ _ e
 
-present : (f : ℕ → Entry) (n j o : ℕ) → j < n → ((k : ℕ) → k < j → (f k).object ≡ o → ⊥) → (f j).object ≡ o → lookup (listed f n) o ≡ some (f j).value
-unfolding listed
-present f zero j o l h e = absurd (omega arith)
-present f (suc n) zero o l h e = rw (eq-eqb (f 0).object o e)
-present f (suc n) (suc j) o l h e =
-    rw (ne_eqb (f 0).object o (h 0 (omega arith))) (present (λ i. f (suc i)) n j o (omega arith) (λ k m. h (suc k) (omega arith)) e)
+absent : (d : Entry) (es : List Entry) (o : ℕ) → ((k : ℕ) → k < length es → eqb (get_or es k d).object o ≡ false) → lookup es o ≡ maybe.none
+absent d [] o h = refl
+absent d (x ∷ es) o h = rw (h 0 (omega arith)) (absent d es o (λ k l. h (suc k) (omega arith)))
 
-changed : (f g : ℕ → Entry) (n j o : ℕ) (w : ℤ) → j < n → ((k : ℕ) → k < j → (f k).object ≡ o → ⊥) → (f j).object ≡ o → g j ≡ entry o w → ((k : ℕ) → (k ≡ j → ⊥) → g k ≡ f k)
-    → listed g n ≡ update (listed f n) o w
-unfolding listed
-changed f g zero j o w l h e a b = absurd (omega arith)
-changed f g (suc n) zero o w l h e a b =
-    let t = same (λ i. f (suc i)) (λ i. g (suc i)) n (λ k m. b (suc k) (λ z. absurd (omega arith))) in
-    rw (eq-eqb (f 0).object o e, a, t)
-changed f g (suc n) (suc j) o w l h e a b =
-    let t = changed (λ i. f (suc i)) (λ i. g (suc i)) n j o w (omega arith) (λ k m. h (suc k) (omega arith)) e a (λ k z. b (suc k) (λ y. z (omega arith))) in
-    let x = b 0 (λ y. absurd (omega arith)) in
-    rw (ne_eqb (f 0).object o (h 0 (omega arith)), x, t)
+present : (d : Entry) (es : List Entry) (o j : ℕ) → j < length es → ((k : ℕ) → k < j → eqb (get_or es k d).object o ≡ false) → eqb (get_or es j d).object o ≡ true
+    → lookup es o ≡ maybe.some (get_or es j d).value
+present d [] o j l h e = absurd (omega arith)
+present d (x ∷ es) o zero l h e = rw e
+present d (x ∷ es) o (suc j) l h e =
+    rw (h 0 (omega arith)) (present d es o j (omega arith) (λ k m. h (suc k) (omega arith)) e)
 
-added : (f g : ℕ → Entry) (n o : ℕ) (w : ℤ) → g n ≡ entry o w → ((k : ℕ) → k < n → g k ≡ f k) → listed g (suc n) ≡ append (listed f n) o w
-unfolding listed
-added f g zero o w a b = rw a
-added f g (suc n) o w a b =
-    let t = added (λ i. f (suc i)) (λ i. g (suc i)) n o w a (λ k l. b (suc k) (omega arith)) in
-    let x = b 0 (omega arith) in
-    rw x (ap (f 0 ∷◌) t)
+changed : (d : Entry) (es : List Entry) (o j : ℕ) (w : ℤ) → j < length es → ((k : ℕ) → k < j → eqb (get_or es k d).object o ≡ false) → eqb (get_or es j d).object o ≡ true
+    → set es j (entry o w) ≡ update es o w
+changed d [] o j w l h e = absurd (omega arith)
+changed d (x ∷ es) o zero w l h e = rw e
+changed d (x ∷ es) o (suc j) w l h e =
+    rw (h 0 (omega arith)) (ap (x ∷◌) (changed d es o j w (omega arith) (λ k m. h (suc k) (omega arith)) e))
 
--- ---- entries in arrays
+-- ---- the first n entries of an array
 
-module _ (os : List ℕ) (vs : List ℤ) (n o j : ℕ) (found : Found os n o j) where
-  pub lookup_absent : n ≤ j → lookup (entries n os vs) o ≡ none
-  unfolding entries
-  lookup_absent h = absent (nth_entry os vs) n o (λ k l. found.before k (omega arith))
+module _ (es : List Entry) (n o : ℕ) where
+  pub lookup_absent : Found (take n es) o None → lookup (take n es) o ≡ maybe.none
+  lookup_absent f =
+      let d = entry 0 (pos 0) in
+      let l = none_before (take n es) o f in
+      absent d (take n es) o (λ k h. fails_before_first (names o) (take n es) k d (omega arith))
 
-  pub lookup-found : j < n → lookup (entries n os vs) o ≡ some (get_or vs j (pos 0))
-  unfolding entries
-  lookup-found h = present (nth_entry os vs) n j o h found.before (found.there h)
+  module _ (d : Entry) (j : ℕ) (found : Found (take n es) o (Some j)) where
+    here : (j < length (take n es)) × (eqb (get_or (take n es) j d).object o ≡ true) × ((k : ℕ) → k < j → eqb (get_or (take n es) k d).object o ≡ false)
+    here = position-Some (names o) (take n es) j d (sym found)
 
-  module _ (w : ℤ) (room : Room os vs) where
-    pub update_found : j < n → n ≤ capacity → entries n (set os j o) (set vs j w) ≡ update (entries n os vs) o w
-    unfolding entries
-    update_found h l =
-        let a = room.objects in
-        let b = room.values in
-        changed (nth_entry os vs) (nth_entry (set os j o) (set vs j w)) n j o w h found.before (found.there h)
-        (rw (get_or-set_same os j o 0 (omega arith), get_or-set_same vs j w (pos 0) (omega arith)))
-        (λ k z. rw (get_or-set_other os j k o 0 z, get_or-set_other vs j k w (pos 0) z))
+    below : j < n
+    below = let h = here.0 in omega (arith, length-take n es)
 
-pub append-last : (os : List ℕ) (vs : List ℤ) (n o : ℕ) (w : ℤ) → Room os vs → n < capacity → entries (suc n) (set os n o) (set vs n w) ≡ append (entries n os vs) o w
-unfolding entries
-append-last os vs n o w room h =
-    let a = room.objects in
-    let b = room.values in
-    added (nth_entry os vs) (nth_entry (set os n o) (set vs n w)) n o w
-    (rw (get_or-set_same os n o 0 (omega arith), get_or-set_same vs n w (pos 0) (omega arith)))
-    (λ k l. let z : k ≡ n → ⊥ = λ e. omega arith in rw (get_or-set_other os n k o 0 z, get_or-set_other vs n k w (pos 0) z))
+    pub lookup-found : lookup (take n es) o ≡ maybe.some (get_or es j d).value
+    lookup-found = let l = below in rw (← (get_or-take n es j d l)) (present d (take n es) o j here.0 here.2 here.1)
+
+    pub update_found : (w : ℤ) → take n (set es j (entry o w)) ≡ update (take n es) o w
+    update_found w = let l = below in rw (take-set-lt n es j (entry o w) l) (changed d (take n es) o j w here.0 here.2 here.1)
+
+  pub append-last : (w : ℤ) → n < length es → take (suc n) (set es n (entry o w)) ≡ append (take n es) o w
+  append-last w h = take-suc-set es n (entry o w) h

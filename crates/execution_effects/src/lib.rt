@@ -6,11 +6,10 @@ ghost use Rattle.std.specs.Prelude.{◌≡◌, List, ℕ, ◌+◌, ◌*◌, ◌�
 ghost use Rattle.cells.specs.Cells.{cells};
 ghost use Rattle.execution.specs.Run.{Table, Beside, table_of, object_count, apply, get as get-move, put as put-move, register};
 ghost use Rattle.execution.specs.LentTable.{bounds_cell, lent_beside};
-ghost use Rattle.execution.specs.Arrays.{capacity, run_of_arrays, Room, Bounded};
-ghost use Rattle.execution_effects.specs.Effects.{advanced, stopped, settled, Found};
+ghost use Rattle.execution.specs.Arrays.{capacity, run_of_arrays, Room, Bounded, Within};
+ghost use Rattle.execution_effects.specs.Effects.{Ready, advanced, stopped, settled, Found};
 
-use arith::Checked;
-use execution::{Counts, ObjectsAt};
+use execution::{Counts, Entry, ObjectsAt};
 
 // Past one operation and `passed` more.
 pub fn advance(c: Counts, passed: usize) -> Counts
@@ -20,12 +19,11 @@ pub fn advance(c: Counts, passed: usize) -> Counts
     Counts {
         counter: c.counter + passed + 1,
         outcome: 0,
-        reads: c.reads,
-        writes: c.writes,
+        ..c
     }
 }
 
-// An early stop with this outcome.
+// An early stop with this outcome: a number, as `Counts` has it, and since docs/CLAIMS.md names the function, its parameter may not become narrower.
 pub fn stop(c: Counts, outcome: usize) -> Counts
     requires { c.counter < capacity }
     ensures { result ≡ stopped outcome c }
@@ -33,8 +31,8 @@ pub fn stop(c: Counts, outcome: usize) -> Counts
     Counts {
         counter: c.counter + 1, // this operation counts as carried out
         outcome,
-        reads: c.reads,
         writes: 0, // nothing is stored
+        ..c
     }
 }
 
@@ -49,71 +47,57 @@ pub fn assign(registers: &mut [i64; 4], c: Counts, r: usize, v: i64) -> Counts
 }
 
 // A checked sum or difference goes into its register, or the run stops.
-pub fn settle(registers: &mut [i64; 4], c: Counts, r: usize, x: Checked) -> Counts
-    requires { Bounded c × (c.counter < capacity) × (r < 4) }
-    ensures run { (T : Table) (ro wo : List ℕ) (rv wv : List ℤ) → run_of_arrays result registers.new ro rv wo wv
-        ≡ apply T (settled registers.old r x) (run_of_arrays c registers.old ro rv wo wv) }
+pub fn settle(registers: &mut [i64; 4], c: Counts, r: usize, x: Option<i64>) -> Counts
+    requires { Ready c r }
+    ensures run { (T : Table) (reads writes : List Entry) → run_of_arrays result registers.new reads writes
+        ≡ apply T (settled registers.old r x) (run_of_arrays c registers.old reads writes) }
     ensures bounded { Bounded result }
+    ensures within { Within result }
 {
     match x {
-        Checked::Value(v) => assign(registers, c, r, v),
-        Checked::Overflow => stop(c, 2),
+        Some(v) => assign(registers, c, r, v),
+        None => stop(c, 2),
     }
 }
 
-// The first index of an object among the first n, else n: it stands at no index passed.
-fn find(objects: &[usize; 16], n: usize, object: usize) -> usize
-    requires { n ≤ capacity }
-    ensures { Found objects.now n object result }
+// The first index of an object in a set.
+fn find(set: &[Entry], object: usize) -> Option<usize>
+    ensures { Found set.now object result }
 {
-    let mut i = 0;
-    while i < n {
-        if objects[i] == object {
-            return i;
-        }
-        i += 1;
-    }
-    i
+    set.iter().position(|e| e.object == object)
 }
 
 // The own latest store of the object, else the value read before, else the table's, which is recorded.
-pub fn load<'a>(
+pub fn load(
     table: &[i64],
     registers: &mut [i64; 4],
-    ro: &mut [usize; 16],
-    rv: &mut [i64; 16],
-    wo: &'a [usize; 16],
-    wv: &'a [i64; 16],
+    reads: &mut [Entry; 16],
+    writes: &[Entry; 16],
     c: Counts,
     r: usize,
     o: usize,
 ) -> Counts
-    requires { Bounded c × (c.counter < capacity) × (r < 4) × (o < object_count table.now) × Room ro.old rv.old }
-    ensures run { (b : Beside) → run_of_arrays result registers.new ro.new rv.new wo.now wv.now
+    requires { Ready c r × (o < object_count table.now) × Room reads.old }
+    ensures run { (b : Beside) → run_of_arrays result registers.new reads.new writes.now
         ≡ apply (table_of table.now b) (get-move r o)
-        (run_of_arrays c registers.old ro.old rv.old wo.now wv.now) }
+        (run_of_arrays c registers.old reads.old writes.now) }
     ensures bounded { Bounded result }
-    ensures room { Room ro.new rv.new }
+    ensures within { Within result }
+    ensures room { Room reads.new }
 {
-    let writes = c.writes;
-    let j = find(wo, writes, o);
-    if j < writes {
-        return assign(registers, c, r, wv[j]);
+    if let Some(j) = find(&writes[..c.writes], o) {
+        return assign(registers, c, r, writes[j].value);
     }
-    let reads = c.reads;
-    let k = find(ro, reads, o);
-    if k < reads {
-        return assign(registers, c, r, rv[k]);
+    let n = c.reads;
+    if let Some(k) = find(&reads[..n], o) {
+        return assign(registers, c, r, reads[k].value);
     }
     let value = table[o];
-    ro[reads] = o;
-    rv[reads] = value;
+    reads[n] = Entry { object: o, value };
     registers[r] = value;
     Counts {
-        counter: c.counter + 1,
-        outcome: 0,
-        reads: reads + 1,
-        writes: c.writes,
+        reads: n + 1,
+        ..advance(c, 0)
     }
 }
 
@@ -122,36 +106,34 @@ pub fn store(
     area: &[u8],
     objects: ObjectsAt,
     registers: &[i64; 4],
-    wo: &mut [usize; 16],
-    wv: &mut [i64; 16],
+    writes: &mut [Entry; 16],
     c: Counts,
     r: usize,
     o: usize,
 ) -> Counts
-    requires { Bounded c × (c.counter < capacity) × (r < 4) × ((bounds_cell objects o + 2) * 8 ≤ length area.now) × Room wo.old wv.old }
-    ensures run { (n : ℕ) (vs : List ℤ) (ro : List ℕ) (rv : List ℤ) → o < n
-        → run_of_arrays result registers.now ro rv wo.new wv.new
+    requires { Ready c r × ((bounds_cell objects o + 2) * 8 ≤ length area.now) × Room writes.old }
+    ensures run { (n : ℕ) (vs : List ℤ) (reads : List Entry) → o < n
+        → run_of_arrays result registers.now reads writes.new
         ≡ apply (table_of vs (lent_beside n objects (cells area.now))) (put-move o (register registers.now r))
-        (run_of_arrays c registers.now ro rv wo.old wv.old) }
+        (run_of_arrays c registers.now reads writes.old) }
     ensures bounded { Bounded result }
-    ensures room { Room wo.new wv.new }
+    ensures within { Within result }
+    ensures room { Room writes.new }
 {
-    let v = registers[r];
+    let value = registers[r];
     let at = objects.lower + o * objects.stride;
-    if !execution::allows(area, at, v) {
+    if !execution::allows(area, at, value) {
         return stop(c, 3);
     }
+    let entry = Entry { object: o, value };
     let n = c.writes;
-    let j = find(wo, n, o);
-    wo[j] = o;
-    wv[j] = v;
-    if j < n {
+    if let Some(j) = find(&writes[..n], o) {
+        writes[j] = entry;
         return advance(c, 0);
     }
+    writes[n] = entry;
     Counts {
-        counter: c.counter + 1,
-        outcome: 0,
-        reads: c.reads,
         writes: n + 1,
+        ..advance(c, 0)
     }
 }

@@ -12,6 +12,7 @@ use Rattle.operation.proofs.BodyLaws.{length-operations, head_operations}
 use Rattle.operation.specs.declared.Operation.{Operation}
 use Rattle.operation.specs.declared.Operation.TheVariants.{Load, Store, Set, Add, Subtract, Skip, Fail, Divide}
 use Rattle.execution.specs.declared.Counts.{Counts}
+use Rattle.execution.specs.Entries.{Entry}
 use Rattle.execution.specs.Run.{Table, outside, Move, get, put, go, halt, move, Run, start, put_in, stopped, apply, due, is_none, ended, obey, step, steps, whole, counted}
 use Rattle.execution.proofs.ReadAgreement.{stay, steps-step, ended-past, enough}
 use Rattle.execution.proofs.Counting.{counted-ended}
@@ -62,17 +63,17 @@ module _ (T : Table) (b : List Operation) (budget : ℕ) (s : Run) where
       → Executes T b budget s (record { counter = p.counter; outcome = k; registers = p.registers; reads = p.reads; writes = p.writes }) used
   rewritten used p k e d = rw (← e) d
 
-pub lent-rewritten : {t : Counts} {ro : List ℕ} {rv : List ℤ} {wo : List ℕ} {wv : List ℤ} (k : ℕ) → Lent t ro rv wo wv
-    → Lent (record { counter = t.counter; outcome = k; reads = t.reads; writes = t.writes }) ro rv wo wv
+pub lent-rewritten : {t : Counts} {reads writes : List Entry} (k : ℕ) → Lent t reads writes
+    → Lent (record { counter = t.counter; outcome = k; reads = t.reads; writes = t.writes }) reads writes
 lent-rewritten k h =
     record { bounded = record { reads = h.bounded.reads; writes = h.bounded.writes }; read_room = h.read_room; write_room = h.write_room }
 
 -- a run from its start with the most operations is the whole run
-pub run-whole : (T : Table) (b : List Operation) (t : Counts) (g : List ℤ) (ro : List ℕ) (rv : List ℤ) (wo : List ℕ) (wv : List ℤ) → length b ≤ capacity
-    → run_of_arrays t g ro rv wo wv ≡ steps T b capacity start → InArrays (whole T b) t ro rv wo wv
-run-whole T b t g ro rv wo wv h e =
+pub run-whole : (T : Table) (b : List Operation) (t : Counts) (g : List ℤ) (reads writes : List Entry) → length b ≤ capacity
+    → run_of_arrays t g reads writes ≡ steps T b capacity start → InArrays (whole T b) t reads writes
+run-whole T b t g reads writes h e =
     let f = e ∙ enough T b capacity h in
-    ap (λ (p : Run). run_of_arrays t p.registers ro rv wo wv) (sym f) ∙ f
+    ap (λ (p : Run). run_of_arrays t p.registers reads writes) (sym f) ∙ f
 
 pub apply-outcome : (T : Table) (m : Move) (p q : Run) → q ≡ apply T m p → q.outcome ≤ 3
 apply-outcome T m p q e = rw e (by m)

@@ -1,6 +1,6 @@
 -- What `install` asks and leaves, and the laws of its turns. Assumes nothing.
-use Rattle.std.specs.Prelude.{◌≡◌, true, List, [], map, ℕ, suc, ◌+◌, ◌*◌, ◌-◌, ◌^◌, ◌≤◌, ◌<◌, ℤ, pos, length, get_or}
-use Rattle.std.proofs.Common.{sym, ap, ap₂, ◌∙◌, subst, arith, mul-le-mul_right, add-one, to_z, of_z, to_z-of_z}
+use Rattle.std.specs.Prelude.{◌≡◌, true, List, [], map, ℕ, suc, ◌+◌, ◌*◌, ◌-◌, ◌^◌, ◌≤◌, ◌<◌, ℤ, length, get_or, take}
+use Rattle.std.proofs.Common.{sym, ap, ap₂, ◌∙◌, subst, arith, mul-le-mul_right, add-one, take_all, to_z, of_z, to_z-of_z}
 use Rattle.std.proofs.Math.Option.{none, some}
 use Rattle.std.proofs.lemmas.List.{length-map}
 use Rattle.std.specs.Int.Signed.{mag}
@@ -11,7 +11,6 @@ use Rattle.cells.specs.Cells.{cells, uncells}
 use Rattle.cells.specs.Uncells.{length-uncells}
 use Rattle.arith.specs.Integer.{fits}
 use Rattle.execution.specs.Entries.{Entry, lookup}
-use Rattle.execution.specs.Arrays.{entries}
 use Rattle.execution.proofs.ReadAgreement.{both}
 use Rattle.execution.specs.RunShape.{Entries, sound}
 use Rattle.model.specs.declared.Limits.{Limits}
@@ -33,7 +32,7 @@ use Rattle.layout.proofs.Writing.{write-object}
 use Rattle.layout.proofs.ObjectBlock.{readers-stamps}
 use Rattle.versions.specs.Block.{stamps, block_versions, block, block_ok, Lent}
 use Rattle.versions.proofs.Round.{length-block}
-use Rattle.final_commit.specs.InstalledVersions.{install-none, install-one, install-before, entries_none, entries-end, entry_new, entry-sound}
+use Rattle.final_commit.specs.InstalledVersions.{nth_entry, install-none, install-one, install-before, entries_none, entries-end, entry_new, entry-sound}
 use Rattle.final_commit.specs.CommittedBlock.{pushed-fits, lent-versions, lent_ok}
 
 -- The record area b holds a replica whose versions are in shape, rs are its readers' cells, t is its next timestamp, and ws names different
@@ -54,41 +53,41 @@ installed t ws u = with_objects (model.install t (opens u.readers) ws u.objects)
 pub record Installs (l : Limits) (t : ℕ) (ws : List Entry) (rs b d : List ℕ) : Type 0 where
   pub holds : (p : Ready l b rs t ws) → Holds l d (installed t ws p.replica)
 
--- The loop over n entries, whose objects and values stand in two arrays: in front of entry i the area holds the replica after the writes passed.
-pub record Installing (l : Limits) (b rs : List ℕ) (t n : ℕ) (os : List ℕ) (vs : List ℤ) (c : List ℕ) (i : ℕ) : Type 0 where
-  pub holds : (p : Ready l b rs t (entries n os vs)) → Holds l c (installed t (entries i os vs) p.replica)
+-- The loop over the entries: in front of entry i the area holds the replica after the writes passed.
+pub record Installing (l : Limits) (b rs : List ℕ) (t : ℕ) (ws : List Entry) (c : List ℕ) (i : ℕ) : Type 0 where
+  pub holds : (p : Ready l b rs t ws) → Holds l c (installed t (take i ws) p.replica)
 
-pub install-start : (l : Limits) (b rs : List ℕ) (t n : ℕ) (os : List ℕ) (vs : List ℤ) → Installing l b rs t n os vs b 0
-install-start l b rs t n os vs =
+pub install-start : (l : Limits) (b rs : List ℕ) (t : ℕ) (ws : List Entry) → Installing l b rs t ws b 0
+install-start l b rs t ws =
     record {
       holds = λ p. let u = p.replica in
           subst (λ (x : List (List Version)). Holds l b (with_objects x u))
-          (sym (ap (λ (w : List Entry). model.install t (opens u.readers) w u.objects) (entries_none os vs) ∙ install-none t (opens u.readers) u.timestamp u.objects p.versions))
+          (sym (ap (λ (w : List Entry). model.install t (opens u.readers) w u.objects) (entries_none ws) ∙ install-none t (opens u.readers) u.timestamp u.objects p.versions))
           p.holds;
     }
 
 -- a turn, that of entry i
-pub record Turn (l : Limits) (b rs : List ℕ) (t n : ℕ) (os : List ℕ) (vs : List ℤ) (c : List ℕ) (i : ℕ) : Type 0 where
+pub record Turn (l : Limits) (b rs : List ℕ) (t : ℕ) (ws : List Entry) (c : List ℕ) (i : ℕ) : Type 0 where
   pub sane : Sane l
   pub word : Word t
-  pub low : i < n
-  pub before : Installing l b rs t n os vs c i
+  pub low : i < length ws
+  pub before : Installing l b rs t ws c i
 
-module _ {l : Limits} {b rs : List ℕ} {t n : ℕ} {os : List ℕ} {vs : List ℤ} {c : List ℕ} {i : ℕ} (k : Turn l b rs t n os vs c i) (p : Ready l b rs t (entries n os vs)) where
+module _ {l : Limits} {b rs : List ℕ} {t : ℕ} {ws : List Entry} {c : List ℕ} {i : ℕ} (k : Turn l b rs t ws c i) (p : Ready l b rs t ws) where
   abbrev u : Replica
   u = p.replica
 
   abbrev now : Replica
-  now = installed t (entries i os vs) u
+  now = installed t (take i ws) u
 
   h : Holds l c now
   h = k.before.holds p
 
   abbrev o : ℕ
-  o = get_or os i 0
+  o = (nth_entry ws i).object
 
   abbrev v : ℤ
-  v = get_or vs i (pos 0)
+  v = (nth_entry ws i).value
 
   abbrev old : List Version
   old = get_or u.objects o []
@@ -96,14 +95,14 @@ module _ {l : Limits} {b rs : List ℕ} {t n : ℕ} {os : List ℕ} {vs : List �
   is-sound : (o < length u.objects) × ValueFits v
   unfolding fits
   is-sound =
-      let e = both _ (fits v) (entry-sound os vs n i k.low (sound (length u.objects)) p.writes.values) in
+      let e = both _ (fits v) (entry-sound ws i k.low (sound (length u.objects)) p.writes.values) in
       (ltb-true o (length u.objects) e.0, record { sfits = ltb-true (mag v) (2 ^ 63) e.1 })
 
   pub object-there : o < l.objects
   object-there = omega (arith, is-sound.0, p.holds.fits.objects.0)
 
-  there : o < length (model.install t (opens u.readers) (entries i os vs) u.objects)
-  there = omega (arith, is-sound.0, length-install t (opens u.readers) (entries i os vs) u.objects)
+  there : o < length (model.install t (opens u.readers) (take i ws) u.objects)
+  there = omega (arith, is-sound.0, length-install t (opens u.readers) (take i ws) u.objects)
 
   shape : VersionsShape u.timestamp (opens u.readers) old
   shape = all_in (VersionsShape u.timestamp (opens u.readers)) u.objects o [] p.versions is-sound.0
@@ -111,8 +110,8 @@ module _ {l : Limits} {b rs : List ℕ} {t n : ℕ} {os : List ℕ} {vs : List �
   old-fits : ObjectFits l.readers old
   old-fits = all_in (ObjectFits l.readers) u.objects o [] p.holds.fits.objects.1 is-sound.0
 
-  new : lookup (entries i os vs) o ≡ none
-  new = entry_new os vs n i k.low p.writes.names
+  new : lookup (take i ws) o ≡ none
+  new = entry_new ws i k.low p.writes.names
 
   -- the part lent, in the code's numbers: r is the block's first cell, w its width
   module _ {r w : ℕ} (er : r ≡ object_at l o) (ew : w ≡ versions_width l) where
@@ -135,7 +134,7 @@ module _ {l : Limits} {b rs : List ℕ} {t n : ℕ} {os : List ℕ} {vs : List �
     lent =
         ap₂ (λ (a m : ℕ). mid_of a m c) ea em
         ∙ object-part l k.sane c now h o there
-        ∙ ap (λ (x : List Version). uncells (block l.readers x)) (install-before t (opens u.readers) (entries i os vs) o u.objects new u.timestamp is-sound.0 shape)
+        ∙ ap (λ (x : List Version). uncells (block l.readers x)) (install-before t (opens u.readers) (take i ws) o u.objects new u.timestamp is-sound.0 shape)
 
     opened : stamps (cells rs) ≡ opens u.readers
     opened = readers-stamps l b u p.holds rs p.readers
@@ -164,16 +163,16 @@ module _ {l : Limits} {b rs : List ℕ} {t n : ℕ} {os : List ℕ} {vs : List �
         ∙ ap₂ (λ (q : List ℕ) (z : List Version). uncells (block l.readers (prune q (pushed t z (some v))))) opened (lent-versions l.readers old (mid_of a m c) old-fits small lent)
 
     pub install-step : (ys : List ℕ) → ys ≡ uncells (block l.readers (prune (stamps (cells rs)) (pushed t (block_versions (cells (mid_of a m c))) (some (to_z w64 (of_z w64 v))))))
-        → Holds l (put_mid a m c ys) (installed t (entries (i + 1) os vs) u)
+        → Holds l (put_mid a m c ys) (installed t (take (i + 1) ws) u)
     install-step ys ey =
         let x : List Version = prune (opens u.readers) (pushed t old (some v)) in
         let fit = pushed-fits l.readers u.timestamp t u.readers old v p.holds.fits.readers.0 p.next k.word is-sound.1 shape old-fits in
         subst (λ (z : List (List Version)). Holds l (put_mid a m c ys) (with_objects z u))
-        (install-one t (opens u.readers) (entries i os vs) o u.objects new v
-        ∙ ap (λ (e : List Entry). model.install t (opens u.readers) e u.objects) (sym (ap (λ (j : ℕ). entries j os vs) (add-one i) ∙ entries-end os vs i)))
+        (install-one t (opens u.readers) (take i ws) o u.objects new v
+        ∙ ap (λ (e : List Entry). model.install t (opens u.readers) e u.objects) (sym (ap (λ (j : ℕ). take j ws) (add-one i) ∙ entries-end ws i k.low)))
         (write-object l k.sane c now h o there x fit (put_mid a m c ys) (ap (put_mid a m c) (written ys ey) ∙ ap₂ (λ (a m : ℕ). put_mid a m c (uncells (block l.readers x))) ea em))
 
 -- past the last entry
-pub install-end : (l : Limits) (b rs : List ℕ) (t n : ℕ) (os : List ℕ) (vs : List ℤ) (c : List ℕ) (i : ℕ) → i ≡ n → Installing l b rs t n os vs c i → Installs l t (entries n os vs) rs b c
-install-end l b rs t n os vs c i e k =
-    record { holds = λ p. subst (λ (j : ℕ). Holds l c (installed t (entries j os vs) p.replica)) e (k.holds p) }
+pub install-end : (l : Limits) (b rs : List ℕ) (t : ℕ) (ws : List Entry) (c : List ℕ) (i : ℕ) → length ws ≤ i → Installing l b rs t ws c i → Installs l t ws rs b c
+install-end l b rs t ws c i h k =
+    record { holds = λ p. subst (λ (w : List Entry). Holds l c (installed t w p.replica)) (take_all i ws h) (k.holds p) }

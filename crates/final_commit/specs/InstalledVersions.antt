@@ -1,14 +1,13 @@
 -- Installing a write set, one entry after another: objects that are not written keep their versions, since all of them are held. Assumes nothing.
-use Rattle.std.specs.Prelude.{◌≡◌, ◌≢◌, Bool, true, false, not, cond, ℕ, zero, suc, ◌<◌, ℤ, pos, eqb, length, get_or}
+use Rattle.std.specs.Prelude.{◌≡◌, ◌≢◌, Bool, true, false, not, cond, ℕ, zero, suc, ◌<◌, ℤ, pos, eqb, length, get_or, take}
 use Rattle.std.proofs.Math.Path.{refl, ap}
 use Rattle.std.proofs.Common.{sym, ◌∙◌, arith, not-suc-le-zero, le_of_suc-le-suc, eq-eqb, ne_eqb}
 use Rattle.std.proofs.lemmas.Bool.{false≢true}
 use Rattle.std.proofs.Math.Option.{Option, none, some}
-use mathlib.Core.List.{List, [], ◌∷◌, ◌++◌}
+use mathlib.Core.List.{List, [], ◌∷◌}
 use Rattle.std.proofs.Math.ListN.{set}
-use Rattle.operation.specs.Body.{listed}
-use Rattle.execution.specs.Entries.{Entry, lookup, append}
-use Rattle.execution.specs.Arrays.{nth_entry, entries}
+use Rattle.std.proofs.Math.Seq.{take-suc}
+use Rattle.execution.specs.Entries.{Entry, entry, lookup, append}
 use Rattle.execution.proofs.ReadAgreement.{both}
 use Rattle.execution.specs.RunShape.{is_some, distinct, every}
 use Rattle.model.specs.Lists.{mapi}
@@ -61,57 +60,47 @@ module _ (t : ℕ) (rs : List ℕ) where
         ∙ ap (λ (k : Option ℤ). prune rs (pushed t (get_or objs o []) k)) new
         ∙ prune-shaped s rs (get_or objs o []) v
 
--- ---- the entries of two arrays, one after another
+-- ---- the entries of a write set, one after another
 
-listed-end : {A : Type 0} (f : ℕ → A) (n : ℕ) → listed f (suc n) ≡ listed f n ++ (f n ∷ [])
-unfolding listed
-listed-end f zero = refl
-listed-end f (suc n) = ap (f 0 ∷◌) (listed-end (λ i. f (suc i)) n)
+-- entry i of a set, as a read of it
+abbrev pub nth_entry : List Entry → ℕ → Entry
+nth_entry ws i = get_or ws i (entry 0 (pos 0))
 
-stands : (f : ℕ → Entry) (n i : ℕ) → i < n → is_some (lookup (listed f n) (f i).object) ≡ true
-unfolding listed
-stands f zero i h = absurd (not-suc-le-zero h)
-stands f (suc n) zero h = rw (eq-eqb (f 0).object (f 0).object refl)
-stands f (suc n) (suc i) h = go' (eqb (f 0).object (f (suc i)).object) (stands (λ k. f (suc k)) n i (le_of_suc-le-suc h))
+stands : (ws : List Entry) (i : ℕ) → i < length ws → is_some (lookup ws (nth_entry ws i).object) ≡ true
+stands [] i h = absurd (not-suc-le-zero h)
+stands (w ∷ ws) zero h = rw (eq-eqb w.object w.object refl)
+stands (w ∷ ws) (suc i) h = go' (eqb w.object (nth_entry ws i).object) (stands ws i (le_of_suc-le-suc h))
   where
-    go' : (b : Bool) → is_some (lookup (listed (λ k. f (suc k)) n) (f (suc i)).object) ≡ true → is_some (cond b (some (f 0).value) (lookup (listed (λ k. f (suc k)) n) (f (suc i)).object)) ≡ true
+    go' : (b : Bool) → is_some (lookup ws (nth_entry ws i).object) ≡ true → is_some (cond b (some w.value) (lookup ws (nth_entry ws i).object)) ≡ true
     go' true e = refl
     go' false e = e
 
-first-time : (f : ℕ → Entry) (n i : ℕ) → i < n → distinct (listed f n) ≡ true → lookup (listed f i) (f i).object ≡ none
-unfolding listed
-first-time f zero i h d = absurd (not-suc-le-zero h)
-first-time f (suc n) zero h d = refl
-first-time f (suc n) (suc i) h d =
-    let g : ℕ → Entry = λ k. f (suc k) in
-    let k = both (not (is_some (lookup (listed g n) (f 0).object))) (distinct (listed g n)) d in
-    rw (ne_eqb (f 0).object (f (suc i)).object (λ e. never (lookup (listed g n) (f 0).object) k.0 (rw e (stands g n i (le_of_suc-le-suc h)))))
-    (first-time g n i (le_of_suc-le-suc h) k.1)
+first-time : (ws : List Entry) (i : ℕ) → i < length ws → distinct ws ≡ true → lookup (take i ws) (nth_entry ws i).object ≡ none
+first-time [] i h d = absurd (not-suc-le-zero h)
+first-time (w ∷ ws) zero h d = refl
+first-time (w ∷ ws) (suc i) h d =
+    let k = both (not (is_some (lookup ws w.object))) (distinct ws) d in
+    rw (ne_eqb w.object (nth_entry ws i).object (λ e. never (lookup ws w.object) k.0 (rw e (stands ws i (le_of_suc-le-suc h)))))
+    (first-time ws i (le_of_suc-le-suc h) k.1)
   where
     never : (o : Option ℤ) → not (is_some o) ≡ true → is_some o ≡ true → ⊥
     never o p q = false≢true (sym (ap not q) ∙ p)
 
-every-at : (q : Entry → Bool) (f : ℕ → Entry) (n i : ℕ) → i < n → every q (listed f n) ≡ true → q (f i) ≡ true
-unfolding listed
-every-at q f zero i l e = absurd (not-suc-le-zero l)
-every-at q f (suc n) zero l e = (both (q (f 0)) (every q (listed (λ k. f (suc k)) n)) e).0
-every-at q f (suc n) (suc i) l e =
-    every-at q (λ k. f (suc k)) n i (le_of_suc-le-suc l) (both (q (f 0)) (every q (listed (λ k. f (suc k)) n)) e).1
+every-at : (q : Entry → Bool) (ws : List Entry) (i : ℕ) → i < length ws → every q ws ≡ true → q (nth_entry ws i) ≡ true
+every-at q [] i l e = absurd (not-suc-le-zero l)
+every-at q (w ∷ ws) zero l e = (both (q w) (every q ws) e).0
+every-at q (w ∷ ws) (suc i) l e = every-at q ws i (le_of_suc-le-suc l) (both (q w) (every q ws) e).1
 
-module _ (os : List ℕ) (vs : List ℤ) where
-  pub entries_none : entries 0 os vs ≡ []
-  unfolding entries listed
+module _ (ws : List Entry) where
+  pub entries_none : take 0 ws ≡ []
   entries_none = refl
 
-  pub entries-end : (i : ℕ) → entries (suc i) os vs ≡ append (entries i os vs) (get_or os i 0) (get_or vs i (pos 0))
-  unfolding entries
-  entries-end i = listed-end (nth_entry os vs) i
+  module _ (i : ℕ) (h : i < length ws) where
+    pub entries-end : take (suc i) ws ≡ append (take i ws) (nth_entry ws i).object (nth_entry ws i).value
+    entries-end = take-suc ws i (entry 0 (pos 0)) h
 
-  module _ (n i : ℕ) (h : i < n) where
-    pub entry_new : distinct (entries n os vs) ≡ true → lookup (entries i os vs) (get_or os i 0) ≡ none
-    unfolding entries
-    entry_new d = first-time (nth_entry os vs) n i h d
+    pub entry_new : distinct ws ≡ true → lookup (take i ws) (nth_entry ws i).object ≡ none
+    entry_new d = first-time ws i h d
 
-    pub entry-sound : (q : Entry → Bool) → every q (entries n os vs) ≡ true → q (nth_entry os vs i) ≡ true
-    unfolding entries
-    entry-sound q e = every-at q (nth_entry os vs) n i h e
+    pub entry-sound : (q : Entry → Bool) → every q ws ≡ true → q (nth_entry ws i) ≡ true
+    entry-sound q e = every-at q ws i h e

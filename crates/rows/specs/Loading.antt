@@ -1,6 +1,6 @@
 -- Reading a row: what the code's stores into arrays come to, and that a row which holds a run is read as that run. Assumes nothing.
-use Rattle.std.specs.Prelude.{◌≡◌, List, ◌++◌, ℕ, ◌+◌, ◌-◌, ◌*◌, ◌^◌, ◌≤◌, ◌<◌, ℤ, pos, length, set}
-use Rattle.std.proofs.Common.{sym, ap₂, ◌∙◌, below_none, to_z}
+use Rattle.std.specs.Prelude.{◌≡◌, List, [], ◌∷◌, ◌++◌, ℕ, ◌+◌, ◌-◌, ◌*◌, ◌^◌, ◌≤◌, ◌<◌, ℤ, pos, length, take, drop, set}
+use Rattle.std.proofs.Common.{sym, ap₂, ◌∙◌, add-one, length-take-le, length-drop, take_at, to_z}
 use Rattle.std.proofs.Math.Path.{ap}
 use native.Mathlib.Omega.{arith}
 use Rattle.std.proofs.Math.ListN.{get_or, length-append, get_or-append}
@@ -15,8 +15,7 @@ use Rattle.operation.proofs.BodyLaws.{length-listed}
 use Rattle.execution.specs.declared.Counts.{Counts}
 use Rattle.execution.specs.Entries.{Entry, entry}
 use Rattle.execution.specs.Run.{register}
-use Rattle.execution.specs.Arrays.{capacity, entries, Room}
-use Rattle.execution.proofs.ArraysLaws.{room-set}
+use Rattle.execution.specs.Arrays.{capacity, Room, Within}
 use Rattle.model.specs.ListLaws.{All}
 use Rattle.model.proofs.ListLaws.{all_join, all_in}
 use Rattle.layout.specs.Layout.{Row, row}
@@ -26,49 +25,61 @@ use Rattle.layout.specs.Printable.{ValueFits, EntryFits, RowFits}
 use Rattle.layout.proofs.PrintableLaws.{lawful_row}
 use Rattle.layout.proofs.RowCells.{row-register, row_reads, row-entries, row-object, row-value}
 use Rattle.rows.specs.RowRun.{entry_in, entries_in, register_in, registers_in, run_in, Readable, Loaded}
-use Rattle.execution.proofs.Listed.{listed_same, listed_of, entries-same, fill_next}
+use Rattle.execution.proofs.Listed.{listed_same, listed_of, listed-next, fill_next, all_listed}
 
 -- ---- the code's stores
 
-module _ (cs : List ℕ) where
-  -- the first i entries from entry `from` on stand in two arrays
-  pub record Filling (from i : ℕ) (os : List ℕ) (vs : List ℤ) : Type 0 where
-    pub room : Room os vs
-    pub objects : (k : ℕ) → k < i → get_or os k 0 ≡ (entry_in cs (from + k)).object
-    pub values : (k : ℕ) → k < i → get_or vs k (pos 0) ≡ (entry_in cs (from + k)).value
+none : Entry
+none = entry 0 (pos 0)
 
-  module _ (from : ℕ) (os : List ℕ) (vs : List ℤ) where
-    pub filling-none : Room os vs → Filling from 0 os vs
-    filling-none r =
-        record { room = r; objects = below_none (λ k. get_or os k 0 ≡ (entry_in cs (from + k)).object); values = below_none (λ k. get_or vs k (pos 0) ≡ (entry_in cs (from + k)).value) }
+module _ (cs : List ℕ) (from : ℕ) where
+  -- the first i entries from entry `from` on stand in a slice
+  abbrev pub Filling : ℕ → List Entry → Type 0
+  Filling i es = (k : ℕ) → k < i → get_or es k (entry 0 (pos 0)) ≡ entry_in cs (from + k)
 
-    pub filling-next : (i o : ℕ) (v : ℤ) → i < capacity → Filling from i os vs → o ≡ (entry_in cs (from + i)).object → v ≡ (entry_in cs (from + i)).value
-        → Filling from (i + 1) (set os i o) (set vs i v)
-    filling-next i o v h f a b =
-        let n = f.room.objects in
-        let m = f.room.values in
-        record {
-          room = room-set os vs i o v f.room;
-          objects = fill_next (λ k. (entry_in cs (from + k)).object) 0 os i o (omega arith) f.objects a;
-          values = fill_next (λ k. (entry_in cs (from + k)).value) (pos 0) vs i v (omega arith) f.values b;
-        }
+  pub filling-none : (es : List Entry) → Filling 0 es
+  filling-none es k h = absurd (omega arith)
 
-    pub filling-all : (i : ℕ) → Filling from i os vs → entries i os vs ≡ entries_in cs from i
+  pub filling-next : (i : ℕ) (e : Entry) (es : List Entry) → i < length es → Filling i es → e ≡ entry_in cs (from + i) → Filling (i + 1) (set es i e)
+  filling-next i e es h f a = fill_next (λ k. entry_in cs (from + k)) (entry 0 (pos 0)) es i e h f a
+
+  pub filling-all : (i n : ℕ) (es : List Entry) → length es ≡ n → n ≤ i → Filling i es → es ≡ entries_in cs from n
+  unfolding entries_in
+  filling-all i n es e h f = all_listed (λ k. entry_in cs (from + k)) (entry 0 (pos 0)) es n e (λ k l. f k (omega arith))
+
+  -- one entry more at the end
+  pub entries_in-next : (n : ℕ) → entries_in cs from (n + 1) ≡ entries_in cs from n ++ entry_in cs (from + n) ∷ []
+  unfolding entries_in
+  entries_in-next n = rw add-one (listed-next (λ k. entry_in cs (from + k)) n)
+
+  -- n entries, loaded into the front of an array
+  module _ (n : ℕ) (es old : List Entry) (h : n ≤ length old) (e : es ≡ entries_in cs from (length (take n old))) where
+    loaded_all : es ≡ entries_in cs from n
+    loaded_all = rw (length-take-le n old h) at e
+
+    loaded_length : length es ≡ n
     unfolding entries_in
-    filling-all i f = entries-same i os vs (λ k. entry_in cs (from + k)) f.objects f.values
+    loaded_length = ap length loaded_all ∙ length-listed (λ i. entry_in cs (from + i)) n
+
+    pub loaded_front : take n (es ++ drop n old) ≡ entries_in cs from n
+    loaded_front = take_at es (drop n old) n loaded_length ∙ loaded_all
+
+    pub loaded_room : Room old → Room (es ++ drop n old)
+    loaded_room r = omega (arith, loaded_length, length-append es (drop n old), length-drop n old)
 
 -- the parts put together
-pub loaded : (cs : List ℕ) (t : Counts) (g : List ℤ) (ro : List ℕ) (rv : List ℤ) (wo : List ℕ) (wv : List ℤ)
+pub loaded : (cs : List ℕ) (t : Counts) (g : List ℤ) (reads writes : List Entry)
     → t.counter ≡ get_or cs counter_at 0 → t.outcome ≡ get_or cs outcome_at 0 → t.reads ≡ get_or cs reads_at 0 → t.writes ≡ get_or cs entries_at 0 - get_or cs reads_at 0
-    → g ≡ registers_in cs → entries t.reads ro rv ≡ entries_in cs 0 t.reads → entries t.writes wo wv ≡ entries_in cs t.reads t.writes → Room ro rv → Room wo wv
-    → Loaded cs t g ro rv wo wv
+    → g ≡ registers_in cs → take t.reads reads ≡ entries_in cs 0 t.reads → take t.writes writes ≡ entries_in cs t.reads t.writes → Within t → Room reads → Room writes
+    → Loaded cs t g reads writes
 unfolding registers_in
-loaded cs t g ro rv wo wv a b n w r x y rr ww =
+loaded cs t g reads writes a b n w r x y v rr ww =
     let p = x ∙ ap (entries_in cs 0) n in
     let q = y ∙ ap₂ (entries_in cs) n w in
     record {
       run = λ i. record { counter = a i; outcome = b i; registers = r i; reads = p i; writes = q i };
       registers = ap length r ∙ length-listed (register_in cs) register_count;
+      within = v;
       read_room = rr;
       write_room = ww;
     }
@@ -81,9 +92,6 @@ row-size m = omega arith
 
 long-enough : (cs : List ℕ) (m n : ℕ) → length cs ≡ entry_at m → n ≤ m → entry_at n * 8 ≤ length (uncells cs)
 long-enough cs m n e h = omega (arith, length-uncells cs)
-
-none : Entry
-none = entry 0 (pos 0)
 
 module _ (m : ℕ) (r : Row) (g : RowFits m r) where
   abbrev cs : List ℕ

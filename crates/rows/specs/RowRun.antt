@@ -8,7 +8,7 @@ use Rattle.operation.specs.Body.{register_count, listed}
 use Rattle.execution.specs.declared.Counts.{Counts}
 use Rattle.execution.specs.Entries.{Entry, entry}
 use Rattle.execution.specs.Run.{Run}
-use Rattle.execution.specs.Arrays.{capacity, run_of_arrays, Room}
+use Rattle.execution.specs.Arrays.{capacity, run_of_arrays, Room, Within}
 use Rattle.layout.specs.Rows.{flat}
 use Rattle.layout.specs.Layout.{run, entry as entry-codec}
 use Rattle.layout.specs.Offsets.{counter_at, outcome_at, register_at, reads_at, entries_at, entry_at}
@@ -44,11 +44,12 @@ pub record Readable (bs : List ℕ) : Type 0 where
   pub long : entry_at (get_or (cells bs) entries_at 0) * 8 ≤ length bs
 
 -- the run of a row stands in these counts and arrays
-pub record Loaded (cs : List ℕ) (t : Counts) (g : List ℤ) (ro : List ℕ) (rv : List ℤ) (wo : List ℕ) (wv : List ℤ) : Type 0 where
-  pub run : run_of_arrays t g ro rv wo wv ≡ run_in cs
+pub record Loaded (cs : List ℕ) (t : Counts) (g : List ℤ) (reads writes : List Entry) : Type 0 where
+  pub run : run_of_arrays t g reads writes ≡ run_in cs
   pub registers : length g ≡ register_count
-  pub read_room : Room ro rv
-  pub write_room : Room wo wv
+  pub within : Within t
+  pub read_room : Room reads
+  pub write_room : Room writes
 
 -- ---- and back
 
@@ -71,5 +72,5 @@ pub record Storable (t : Counts) (g : List ℤ) (xs : List ℕ) : Type 0 where
   pub registers : length g ≡ register_count
 
 -- the row ys: its key as it was in xs, and the run in these counts and arrays
-pub record Stored (t : Counts) (g : List ℤ) (ro : List ℕ) (rv : List ℤ) (wo : List ℕ) (wv : List ℤ) (xs ys : List ℕ) : Type 0 where
-  pub whole : (m : ℕ) → length xs ≡ entry_at m * 8 → ys ≡ take 8 xs ++ uncells ((run m).enc (run_of_arrays t g ro rv wo wv))
+pub record Stored (t : Counts) (g : List ℤ) (reads writes : List Entry) (xs ys : List ℕ) : Type 0 where
+  pub whole : (m : ℕ) → length xs ≡ entry_at m * 8 → ys ≡ take 8 xs ++ uncells ((run m).enc (run_of_arrays t g reads writes))

@@ -16,17 +16,15 @@ use Rattle.cells.specs.BlockMoves.{copy_step, copy_done}
 use Rattle.cells.specs.CellLaws.{uncells-cells}
 use Rattle.cells.specs.Uncells.{uncells-append, uncells-take}
 use Rattle.operation.specs.Body.{register_count}
-use Rattle.operation.proofs.BodyLaws.{get_or-listed}
 use Rattle.execution.specs.declared.Counts.{Counts}
 use Rattle.execution.specs.Entries.{Entry}
-use Rattle.execution.specs.Arrays.{nth_entry, entries, run_of_arrays}
+use Rattle.execution.specs.Arrays.{run_of_arrays}
 use Rattle.layout.specs.Rows.{flat, table, blank}
 use Rattle.layout.specs.Layout.{Row, row, run}
 use Rattle.layout.specs.Layout as layout
 use Rattle.layout.specs.Offsets.{counter_at, outcome_at, register_at, reads_at, entries_at, entry_at}
 use Rattle.layout.proofs.RowCells.{array-cells}
 use Rattle.rows.specs.RowRun.{Behind, front, entry_cells, Stored}
-use Rattle.execution.proofs.Listed.{length-entries}
 
 -- ---- entries and their cells
 
@@ -69,45 +67,34 @@ module _ (cs : List ℕ) (g : List ℤ) where
 
 -- ---- a turn of the loop that stores entries
 
-module _ (cs : List ℕ) (from n : ℕ) (os : List ℕ) (vs : List ℤ) where
-  -- the first i of n entries stand from entry `from` on
-  pub record Storing (i : ℕ) (ds : List ℕ) : Type 0 where
-    pub within : i ≤ n
-    pub same : ds ≡ paste cs (entry_at from) (entry_cells (entries n os vs)) (i * 2)
+module _ (cs : List ℕ) (from : ℕ) (es : List Entry) where
+  -- the first i of them stand from entry `from` on
+  abbrev pub Storing : ℕ → List ℕ → Type 0
+  Storing i ds = ds ≡ paste cs (entry_at from) (entry_cells es) (i * 2)
 
   pub storing_none : Storing 0 cs
-  storing_none = record { within = omega arith; same = paste-zero cs (entry_at from) (entry_cells (entries n os vs)) }
+  storing_none = paste-zero cs (entry_at from) (entry_cells es)
 
-  pub storing_next : (i : ℕ) (ds : List ℕ) → entry_at (from + n) ≤ length cs → i < n → Storing i ds
-      → Storing (i + 1) (set (set ds (entry_at (from + i)) (get_or os i 0)) (entry_at (from + i) + 1) (of_z w64 (get_or vs i (pos 0))))
-  unfolding entries
-  storing_next i ds room h k =
-      let es = entries n os vs in
+  pub storing_next : (d : Entry) (i : ℕ) (ds : List ℕ) → entry_at (from + length es) ≤ length cs → i < length es → Storing i ds
+      → Storing (i + 1) (set (set ds (entry_at (from + i)) (get_or es i d).object) (entry_at (from + i) + 1) (of_z w64 (get_or es i d).value))
+  storing_next d i ds room h k =
       let s = entry_cells es in
       let at = entry_at from in
-      let o = get_or os i 0 in
-      let v = of_z w64 (get_or vs i (pos 0)) in
-      let size : length s ≡ n * 2 = length_cells-of es ∙ ap (λ (x : ℕ). x * 2) (length-entries n os vs) in
-      let there = cell_of es i (nth_entry os vs 0) (omega (arith, length-entries n os vs)) in
-      let e = get_or-listed (nth_entry os vs) n i (nth_entry os vs 0) h in
+      let o = (get_or es i d).object in
+      let v = of_z w64 (get_or es i d).value in
+      let size = length_cells-of es in
+      let there = cell_of es i d h in
       let a : entry_at (from + i) ≡ at + i * 2 = omega arith in
       let b : entry_at (from + i) + 1 ≡ at + (i * 2 + 1) = omega arith in
       let z : i * 2 + 1 + 1 ≡ (i + 1) * 2 = omega arith in
       let one : set ds (entry_at (from + i)) o ≡ paste cs at s (i * 2 + 1) =
-      ap (λ (j : ℕ). set ds j o) a ∙ copy_step cs s ds at (i * 2) k.same o (omega arith) (omega arith) (sym (there.0 ∙ ap (λ (x : Entry). x.object) e)) in
-      record {
-        within = omega arith;
-        same =
-            ap (λ (j : ℕ). set (set ds (entry_at (from + i)) o) j v) b
-            ∙ copy_step cs s (set ds (entry_at (from + i)) o) at (i * 2 + 1) one v (omega arith) (omega arith) (sym (there.1 ∙ ap (λ (x : Entry). of_z w64 x.value) e))
-            ∙ ap (paste cs at s) z;
-      }
+      ap (λ (j : ℕ). set ds j o) a ∙ copy_step cs s ds at (i * 2) k o (omega arith) (omega arith) (sym there.0) in
+      ap (λ (j : ℕ). set (set ds (entry_at (from + i)) o) j v) b
+      ∙ copy_step cs s (set ds (entry_at (from + i)) o) at (i * 2 + 1) one v (omega arith) (omega arith) (sym there.1)
+      ∙ ap (paste cs at s) z
 
-  pub storing_all : (ds : List ℕ) (i : ℕ) → n ≤ i → Storing i ds → ds ≡ splice cs (entry_at from) (entry_cells (entries n os vs))
-  storing_all ds i h k =
-      let w = k.within in
-      let es = entries n os vs in
-      copy_done cs (entry_cells es) ds (entry_at from) (i * 2) k.same (omega (arith, length_cells-of es, length-entries n os vs))
+  pub storing_all : (ds : List ℕ) → Storing (length es) ds → ds ≡ splice cs (entry_at from) (entry_cells es)
+  storing_all ds k = copy_done cs (entry_cells es) ds (entry_at from) (length es * 2) k (sym (length_cells-of es))
 
 -- ---- parts stored one right behind another
 
@@ -192,12 +179,12 @@ module _ (t : Counts) (g : List ℤ) (four : length g ≡ register_count) (c0 : 
 
 -- ---- the whole row
 
-module _ (t : Counts) (g : List ℤ) (four : length g ≡ register_count) (ro : List ℕ) (rv : List ℤ) (wo : List ℕ) (wv : List ℤ) where
+module _ (t : Counts) (g : List ℤ) (four : length g ≡ register_count) (reads writes : List Entry) (lr : t.reads ≤ length reads) (lw : t.writes ≤ length writes) where
   abbrev rs : List Entry
-  rs = entries t.reads ro rv
+  rs = take t.reads reads
 
   abbrev ws : List Entry
-  ws = entries t.writes wo wv
+  ws = take t.writes writes
 
   abbrev total : ℕ
   total = t.reads + t.writes
@@ -206,12 +193,12 @@ module _ (t : Counts) (g : List ℤ) (four : length g ≡ register_count) (ro : 
   regs' = map (of_z w64) g
 
   -- the cells of the run
-  run-cells : (m : ℕ) → (run m).enc (run_of_arrays t g ro rv wo wv)
+  run-cells : (m : ℕ) → (run m).enc (run_of_arrays t g reads writes)
       ≡ t.counter ∷ t.outcome ∷ (regs' ++ (t.reads ∷ total ∷ (entry_cells rs ++ (entry_cells ws ++ blank ((m - total) * 2)))))
   unfolding table entry_cells
   run-cells m =
-      let n = length-entries t.reads ro rv in
-      let k = length-entries t.writes wo wv in
+      let n = length-take-le t.reads reads lr in
+      let k = length-take-le t.writes writes lw in
       let all : length (rs ++ ws) ≡ total = length-append rs ws ∙ ap₂ ◌+◌ n k in
       let size : m - length (map (layout.entry).enc (rs ++ ws)) ≡ m - total = ap (λ (x : ℕ). m - x) (length-map (rs ++ ws) (layout.entry).enc ∙ all) in
       let tail = table m 2 (map (layout.entry).enc (rs ++ ws)) in
@@ -232,12 +219,12 @@ module _ (t : Counts) (g : List ℤ) (four : length g ≡ register_count) (ro : 
     z = blank (entry_at m - entry_at total)
 
     pub row-stored : (c1 c2 c3 c4 : List ℕ) → Behind cs (front t g cs) c1 → c2 ≡ splice c1 (entry_at 0) sr → c3 ≡ splice c2 (entry_at t.reads) sw → c4 ≡ splice c3 (entry_at total) z
-        → c4 ≡ take 1 cs ++ (run m).enc (run_of_arrays t g ro rv wo wv)
+        → c4 ≡ take 1 cs ++ (run m).enc (run_of_arrays t g reads writes)
     row-stored c1 c2 c3 c4 b1 e2 e3 e4 =
         let f = front t g cs in
         let n1 = front-size t g four cs (omega arith) in
-        let nr : length sr ≡ t.reads * 2 = length_cells-of rs ∙ ap (λ (x : ℕ). x * 2) (length-entries t.reads ro rv) in
-        let nw : length sw ≡ t.writes * 2 = length_cells-of ws ∙ ap (λ (x : ℕ). x * 2) (length-entries t.writes wo wv) in
+        let nr : length sr ≡ t.reads * 2 = length_cells-of rs ∙ ap (λ (x : ℕ). x * 2) (length-take-le t.reads reads lr) in
+        let nw : length sw ≡ t.writes * 2 = length_cells-of ws ∙ ap (λ (x : ℕ). x * 2) (length-take-le t.writes writes lw) in
         let n2 = length-append f sr in
         let n3 = length-append (f ++ sr) sw in
         let n4 = length-append ((f ++ sr) ++ sw) z in
@@ -260,7 +247,7 @@ row_bytes xs ys n r hx hy lx ly e =
     ∙ ap (◌++ uncells r) (sym (uncells-take 1 (cells xs)) ∙ ap (take 8) (uncells-cells xs n hx lx))
 
 -- a row of some run holds the new one
-pub stored_back : (m : ℕ) (r : Row) (t : Counts) (g : List ℤ) (ro : List ℕ) (rv : List ℤ) (wo : List ℕ) (wv : List ℤ) (xs ys : List ℕ) → xs ≡ uncells ((row m).enc r)
-    → length xs ≡ entry_at m * 8 → Stored t g ro rv wo wv xs ys → ys ≡ uncells ((row m).enc (r.0, run_of_arrays t g ro rv wo wv))
-stored_back m r t g ro rv wo wv xs ys e n k =
-    k.whole m n ∙ ap (λ (x : List ℕ). take 8 x ++ uncells ((run m).enc (run_of_arrays t g ro rv wo wv))) e
+pub stored_back : (m : ℕ) (r : Row) (t : Counts) (g : List ℤ) (reads writes : List Entry) (xs ys : List ℕ) → xs ≡ uncells ((row m).enc r)
+    → length xs ≡ entry_at m * 8 → Stored t g reads writes xs ys → ys ≡ uncells ((row m).enc (r.0, run_of_arrays t g reads writes))
+stored_back m r t g reads writes xs ys e n k =
+    k.whole m n ∙ ap (λ (x : List ℕ). take 8 x ++ uncells ((run m).enc (run_of_arrays t g reads writes))) e

@@ -8,36 +8,33 @@ ghost use Rattle.cells.specs.Cells.{cells, splice};
 ghost use Rattle.operation.specs.Body.{register_count};
 ghost use Rattle.execution.specs.Run.{Beside, table_of, object_count, over};
 ghost use Rattle.execution.specs.RunShape.{every, sound};
-ghost use Rattle.execution.specs.Arrays.{capacity, entries, Room};
+ghost use Rattle.execution.specs.Arrays.{Room};
 ghost use Rattle.layout.specs.Offsets.{Sane, register_at, reads_at, entry_at};
 ghost use Rattle.rows.specs.RowRun.{entries_in, registers_in, run_in, Readable, Loaded, front, entry_cells, Behind, Storable, Stored};
 
-use execution::Counts;
+use execution::{Counts, Entry};
 
 // The registers of a row. The loop fills the array: the places passed have their cells' values.
 fn load_registers(row: &[u8], registers: &mut [i64; 4])
-    requires { (reads_at * 8 ≤ length row.now) × (length registers.old ≡ register_count) }
+    requires { reads_at * 8 ≤ length row.now }
     ensures { registers.new ≡ registers_in (cells row.now) }
 {
-    let mut i = 0;
-    while i < 4 {
-        registers[i] = cells::get_signed(row, layout::ROW_REGISTERS + i);
-        i += 1;
+    for (i, v) in registers.iter_mut().enumerate() {
+        *v = cells::get_signed(row, layout::ROW_REGISTERS + i);
     }
 }
 
-// As many entries of a row, from entry `from` on. The loop fills two arrays: the places passed have their cells' objects and values.
-pub fn load_entries(row: &[u8], from: usize, count: usize, os: &mut [usize; 16], vs: &mut [i64; 16])
-    requires { (count ≤ capacity) × (entry_at (from + count) * 8 ≤ length row.now) × Room os.old vs.old }
-    ensures entries { entries count os.new vs.new ≡ entries_in (cells row.now) from count }
-    ensures room { Room os.new vs.new }
+// As many entries of a row as are lent, from entry `from` on. The loop fills the slice: the places passed have their cells' objects and values.
+pub fn load_entries(row: &[u8], from: usize, entries: &mut [Entry])
+    requires { entry_at (from + length entries.old) * 8 ≤ length row.now }
+    ensures { entries.new ≡ entries_in (cells row.now) from (length entries.old) }
 {
-    let mut i = 0;
-    while i < count {
+    for (i, e) in entries.iter_mut().enumerate() {
         let at = layout::ROW_FIRST_ENTRY + (from + i) * layout::ENTRY_WIDTH;
-        os[i] = cells::get(row, at) as usize;
-        vs[i] = cells::get_signed(row, at + 1);
-        i += 1;
+        *e = Entry {
+            object: cells::get(row, at) as usize,
+            value: cells::get_signed(row, at + 1),
+        };
     }
 }
 
@@ -45,28 +42,25 @@ pub fn load_entries(row: &[u8], from: usize, count: usize, os: &mut [usize; 16],
 pub fn load_row(
     row: &[u8],
     registers: &mut [i64; 4],
-    ro: &mut [usize; 16],
-    rv: &mut [i64; 16],
-    wo: &mut [usize; 16],
-    wv: &mut [i64; 16],
+    reads: &mut [Entry; 16],
+    writes: &mut [Entry; 16],
 ) -> Counts
-    requires { Readable row.now × (length registers.old ≡ register_count) × Room ro.old rv.old × Room wo.old wv.old }
-    ensures { Loaded (cells row.now) result
-        registers.new ro.new rv.new wo.new wv.new }
+    requires { Readable row.now }
+    ensures { Loaded (cells row.now) result registers.new reads.new writes.new }
 {
     let counter = cells::get(row, layout::ROW_COUNTER) as usize;
     let outcome = cells::get(row, layout::ROW_OUTCOME) as usize;
-    let reads = cells::get(row, layout::ROW_READS) as usize;
+    let first = cells::get(row, layout::ROW_READS) as usize;
     let total = cells::get(row, layout::ROW_ENTRIES) as usize;
-    let writes = total - reads;
+    let rest = total - first;
     load_registers(row, registers);
-    load_entries(row, 0, reads, ro, rv);
-    load_entries(row, reads, writes, wo, wv);
+    load_entries(row, 0, &mut reads[..first]);
+    load_entries(row, first, &mut writes[..rest]);
     Counts {
         counter,
         outcome,
-        reads,
-        writes,
+        reads: first,
+        writes: rest,
     }
 }
 
@@ -81,10 +75,8 @@ pub fn overlay_writes(row: &[u8], table: &mut [i64])
 {
     let reads = cells::get(row, layout::ROW_READS) as usize;
     let total = cells::get(row, layout::ROW_ENTRIES) as usize;
-    let mut i = total - reads;
-    while 0 < i {
-        i -= 1;
-        let at = layout::ROW_FIRST_ENTRY + (reads + i) * layout::ENTRY_WIDTH;
+    for i in (reads..total).rev() {
+        let at = layout::ROW_FIRST_ENTRY + i * layout::ENTRY_WIDTH;
         let o = cells::get(row, at) as usize;
         table[o] = cells::get_signed(row, at + 1);
     }
@@ -92,19 +84,17 @@ pub fn overlay_writes(row: &[u8], table: &mut [i64])
 
 // The registers into a row, one behind the other.
 fn store_registers(row: &mut [u8], registers: &[i64; 4])
-    requires { (reads_at * 8 ≤ length row.old) × (length registers.now ≡ register_count) }
+    requires { reads_at * 8 ≤ length row.old }
     ensures { cells row.new ≡ splice (cells row.old) (register_at 0) (map (of_z w64) registers.now) }
 {
-    let mut i = 0;
-    while i < 4 {
-        cells::put_signed(row, layout::ROW_REGISTERS + i, registers[i]);
-        i += 1;
+    for (i, v) in registers.iter().enumerate() {
+        cells::put_signed(row, layout::ROW_REGISTERS + i, *v);
     }
 }
 
 // All that stands before the entries, but the key.
 fn store_front(row: &mut [u8], t: Counts, registers: &[i64; 4])
-    requires { (entry_at 0 * 8 ≤ length row.old) × (length registers.now ≡ register_count) × (t.reads + t.writes ≤ length row.old) }
+    requires { (entry_at 0 * 8 ≤ length row.old) × (t.reads + t.writes ≤ length row.old) }
     ensures { Behind (cells row.old) (front t registers.now (cells row.old)) (cells row.new) }
 {
     cells::put(row, layout::ROW_COUNTER, t.counter as u64);
@@ -116,47 +106,33 @@ fn store_front(row: &mut [u8], t: Counts, registers: &[i64; 4])
     cells::put(row, layout::ROW_ENTRIES, total as u64);
 }
 
-// As many entries into a row, from entry `from` on: those passed stand there.
-fn store_entries<'a>(
-    row: &mut [u8],
-    from: usize,
-    count: usize,
-    os: &'a [usize; 16],
-    vs: &'a [i64; 16],
-)
-    requires { (count ≤ capacity) × (entry_at (from + count) * 8 ≤ length row.old) }
-    ensures { cells row.new
-        ≡ splice (cells row.old) (entry_at from) (entry_cells (entries count os.now vs.now)) }
+// Entries into a row, from entry `from` on: those passed stand there.
+fn store_entries(row: &mut [u8], from: usize, entries: &[Entry])
+    requires { entry_at (from + length entries.now) * 8 ≤ length row.old }
+    ensures { cells row.new ≡ splice (cells row.old) (entry_at from) (entry_cells entries.now) }
 {
-    let mut i = 0;
-    while i < count {
+    for (i, e) in entries.iter().enumerate() {
         let at = layout::ROW_FIRST_ENTRY + (from + i) * layout::ENTRY_WIDTH;
-        cells::put(row, at, os[i] as u64);
-        cells::put_signed(row, at + 1, vs[i]);
-        i += 1;
+        cells::put(row, at, e.object as u64);
+        cells::put_signed(row, at + 1, e.value);
     }
 }
 
 // Writes a run back into its row: the reads, right behind them the writes, and zeros behind these. The key stays.
-pub fn store_row<'a>(
+pub fn store_row(
     row: &mut [u8],
     t: Counts,
     registers: &[i64; 4],
-    ro: &'a [usize; 16],
-    rv: &'a [i64; 16],
-    wo: &'a [usize; 16],
-    wv: &'a [i64; 16],
+    reads: &[Entry; 16],
+    writes: &[Entry; 16],
 )
     requires { Storable t registers.now row.old }
-    ensures { Stored t registers.now ro.now rv.now wo.now wv.now
-        row.old row.new }
+    ensures { Stored t registers.now reads.now writes.now row.old row.new }
 {
-    let reads = t.reads;
-    let writes = t.writes;
     store_front(row, t, registers);
-    store_entries(row, 0, reads, ro, rv);
-    store_entries(row, reads, writes, wo, wv);
-    let used = layout::ROW_FIRST_ENTRY + (reads + writes) * layout::ENTRY_WIDTH;
+    store_entries(row, 0, &reads[..t.reads]);
+    store_entries(row, t.reads, &writes[..t.writes]);
+    let used = layout::ROW_FIRST_ENTRY + (t.reads + t.writes) * layout::ENTRY_WIDTH;
     let end = row.len();
     cells::fill_zero(row, used * 8, end);
 }

@@ -1,23 +1,23 @@
 -- At most `budget` operations of one pending transaction, in its row: what the code asks and what it leaves. Assumes nothing.
-use Rattle.std.specs.Prelude.{◌≡◌, refl, Bool, true, false, cond, List, ℕ, zero, suc, ◌+◌, ◌*◌, ◌^◌, ◌≤◌, ◌<◌, ℤ, length}
-use Rattle.std.proofs.Common.{sym, ap, ◌∙◌, true≢false, arith}
+use Rattle.std.specs.Prelude.{◌≡◌, refl, Bool, true, false, cond, List, ℕ, zero, suc, ◌+◌, ◌*◌, ◌^◌, ◌≤◌, ◌<◌, ℤ, length, take}
+use Rattle.std.proofs.Common.{sym, ap, ◌∙◌, true≢false, length-take-le, arith}
 use Rattle.cells.specs.Cells.{cells, uncells}
 use Rattle.cells.specs.Uncells.{length-uncells}
 use Rattle.operation.specs.Body.{register_count, operations, is_well_formed}
 use Rattle.operation.specs.declared.Operation.{Operation}
 use Rattle.operation.proofs.BodyLaws.{formed}
 use Rattle.execution.specs.declared.Counts.{Counts}
+use Rattle.execution.specs.Entries.{Entry}
 use Rattle.execution.specs.Run.{Table, Beside, table_of, object_count, Run, is_none, due_at, ended, steps, counted, over}
 use Rattle.execution.proofs.ReadAgreement.{stay}
 use Rattle.execution.specs.RunShape.{every, sound}
-use Rattle.execution.specs.Arrays.{capacity, entries, run_of_arrays, Lent}
+use Rattle.execution.specs.Arrays.{capacity, run_of_arrays, Room, Within, Lent}
 use Rattle.execution_interpreter.specs.declared.Executed.{Executed}
 use Rattle.execution_interpreter.specs.Executes.{Executes}
 use Rattle.layout.specs.Layout.{Row, row}
 use Rattle.layout.specs.Offsets.{entry_at}
 use Rattle.layout.specs.Printable.{RowFits}
 use Rattle.rows.specs.RowRun.{run_in, Readable, Loaded, Storable, Stored}
-use Rattle.execution.proofs.Listed.{length-entries}
 use Rattle.rows.specs.Loading.{row-run, row-length}
 use Rattle.rows.specs.Storing.{stored_back}
 use Rattle.speculative_turn.specs.declared.Advanced.{Advanced}
@@ -55,17 +55,20 @@ pub record Leaves (xs body : List ℕ) (vs : List ℤ) (rest : Beside) (budget :
   pub table : table_of ws rest ≡ cond (ended (operations body) (after xs body vs rest budget)) (over (after xs body vs rest budget).writes (table_of vs rest)) (table_of vs rest)
 
 -- the run after the operations stands in these counts and arrays
-pub record Ran (xs body : List ℕ) (vs : List ℤ) (rest : Beside) (budget : ℕ) (e : Executed) (g : List ℤ) (ro : List ℕ) (rv : List ℤ) (wo : List ℕ) (wv : List ℤ) : Type 0 where
-  pub run : run_of_arrays e.counts g ro rv wo wv ≡ after xs body vs rest budget
+pub record Ran (xs body : List ℕ) (vs : List ℤ) (rest : Beside) (budget : ℕ) (e : Executed) (g : List ℤ) (reads writes : List Entry) : Type 0 where
+  pub run : run_of_arrays e.counts g reads writes ≡ after xs body vs rest budget
+  pub within : Within e.counts
+  pub read_room : Room reads
+  pub write_room : Room writes
   pub used : e.used ≡ operations_used xs body vs rest budget
 
 -- ---- counts and the run that they stand for
 
-counts_of : (t : Counts) (g : List ℤ) (ro : List ℕ) (rv : List ℤ) (wo : List ℕ) (wv : List ℤ) (p : Run) → run_of_arrays t g ro rv wo wv ≡ p
+counts_of : (t : Counts) (g : List ℤ) (reads writes : List Entry) (p : Run) → run_of_arrays t g reads writes ≡ p → Within t → Room reads → Room writes
     → (t.reads ≡ length p.reads) × (t.writes ≡ length p.writes) × (t.counter ≡ p.counter)
-counts_of t g ro rv wo wv p e = (
-  sym (length-entries t.reads ro rv) ∙ ap (λ (q : Run). length q.reads) e,
-  sym (length-entries t.writes wo wv) ∙ ap (λ (q : Run). length q.writes) e,
+counts_of t g reads writes p e w rr wr = (
+  sym (length-take-le t.reads reads (omega (arith, w.reads, rr))) ∙ ap (λ (q : Run). length q.reads) e,
+  sym (length-take-le t.writes writes (omega (arith, w.writes, wr))) ∙ ap (λ (q : Run). length q.writes) e,
   ap (λ (q : Run). q.counter) e,
 )
 
@@ -121,24 +124,24 @@ module _ {xs body : List ℕ} {vs : List ℤ} {rest : Beside} {budget : ℕ} (r 
 
   -- ---- any other: its run is loaded,
 
-  module _ {t : Counts} {g : List ℤ} {ro : List ℕ} {rv : List ℤ} {wo : List ℕ} {wv : List ℤ} (k : Loaded (cells xs) t g ro rv wo wv) where
-    pub lent : Lent t ro rv wo wv
+  module _ {t : Counts} {g : List ℤ} {reads writes : List Entry} (k : Loaded (cells xs) t g reads writes) where
+    pub lent : Lent t reads writes
     lent =
-        let n = counts_of t g ro rv wo wv (before xs) k.run in
+        let n = counts_of t g reads writes (before xs) k.run k.within k.read_room k.write_room in
         record { bounded = record { reads = omega (arith, r.reads); writes = omega (arith, r.writes) }; read_room = k.read_room; write_room = k.write_room }
 
     pub unstopped : ended b (before xs) ≡ false → t.outcome ≡ 0
     unstopped e = going_on b t.counter t.outcome (ap (ended b) k.run ∙ e)
 
-    pub ran : {e : Executed} {g' : List ℤ} {ro' : List ℕ} {rv' : List ℤ} {wo' : List ℕ} {wv' : List ℤ}
-        → Executes T b budget (run_of_arrays t g ro rv wo wv) (run_of_arrays e.counts g' ro' rv' wo' wv') e.used → Ran xs body vs rest budget e g' ro' rv' wo' wv'
-    ran x = record { run = x.run ∙ ap (steps T b budget) k.run; used = x.count ∙ ap (counted T b budget) k.run }
+    pub ran : {e : Executed} {g' : List ℤ} {reads' writes' : List Entry}
+        → Executes T b budget (run_of_arrays t g reads writes) (run_of_arrays e.counts g' reads' writes') e.used → (Within t → Within e.counts) → Lent e.counts reads' writes' → Ran xs body vs rest budget e g' reads' writes'
+    ran x w l = record { run = x.run ∙ ap (steps T b budget) k.run; within = w k.within; read_room = l.read_room; write_room = l.write_room; used = x.count ∙ ap (counted T b budget) k.run }
 
   -- ---- carried on to e in these arrays,
 
-  module _ {e : Executed} {g : List ℤ} {ro : List ℕ} {rv : List ℤ} {wo : List ℕ} {wv : List ℤ} (k : Ran xs body vs rest budget e g ro rv wo wv) where
+  module _ {e : Executed} {g : List ℤ} {reads writes : List Entry} (k : Ran xs body vs rest budget e g reads writes) where
     numbers : (e.counts.reads ≡ length q.reads) × (e.counts.writes ≡ length q.writes) × (e.counts.counter ≡ q.counter)
-    numbers = counts_of e.counts g ro rv wo wv q k.run
+    numbers = counts_of e.counts g reads writes q k.run k.within k.read_room k.write_room
 
     -- there is room for the new run
     pub storable : Storable e.counts g xs
@@ -147,22 +150,20 @@ module _ {xs body : List ℕ} {vs : List ℤ} {rest : Beside} {budget : ℕ} (r 
         record { few = omega (arith, r.few); long = omega (arith, r.long); registers = ap (λ (p : Run). length p.registers) k.run ∙ r.registers }
 
     -- its writes can be laid over the table
-    pub overlays : (e.counts.writes ≤ capacity) × (every (sound (object_count vs)) (entries e.counts.writes wo wv) ≡ true)
-    overlays =
-        let n = numbers in
-        (omega (arith, r.few), ap (λ (p : Run). every (sound (object_count vs)) p.writes) k.run ∙ r.sound)
+    pub overlays : every (sound (object_count vs)) (take e.counts.writes writes) ≡ true
+    overlays = ap (λ (p : Run). every (sound (object_count vs)) p.writes) k.run ∙ r.sound
 
     -- ---- and stored
 
-    module _ {ys : List ℕ} (st : Stored e.counts g ro rv wo wv xs ys) {o : Bool} (end : o ≡ is_none (due_at b e.counts.counter e.counts.outcome)) where
+    module _ {ys : List ℕ} (st : Stored e.counts g reads writes xs ys) {o : Bool} (end : o ≡ is_none (due_at b e.counts.counter e.counts.outcome)) where
       ends : ended b q ≡ o
       ends = ap (ended b) (sym k.run) ∙ sym end
 
-      pub leaves : (ws : List ℤ) → table_of ws rest ≡ cond o (over (entries e.counts.writes wo wv) T) T → Leaves xs body vs rest budget (record { used = e.used; finished = o }) ys ws
+      pub leaves : (ws : List ℤ) → table_of ws rest ≡ cond o (over (take e.counts.writes writes) T) T → Leaves xs body vs rest budget (record { used = e.used; finished = o }) ys ws
       leaves ws f =
           record {
             used = k.used;
             finished = sym ends;
-            row = λ m x h y p. stored_back m x e.counts g ro rv wo wv xs ys p (row_bytes m x h y xs p) st ∙ ap (λ (z : Run). uncells ((row m).enc (x.0, z))) k.run;
+            row = λ m x h y p. stored_back m x e.counts g reads writes xs ys p (row_bytes m x h y xs p) st ∙ ap (λ (z : Run). uncells ((row m).enc (x.0, z))) k.run;
             table = overlaid o ends ws (f ∙ ap (λ (p : Run). cond o (over p.writes T) T) k.run);
           }

@@ -9,7 +9,7 @@ ghost use Rattle.rows.specs.RowRun.{Readable};
 ghost use Rattle.speculative_turn.specs.Advance.{before};
 ghost use Rattle.speculative_turn.specs.AreaRow.{area_row, ReadyAt, LeavesAt};
 
-use execution::ObjectsAt;
+use execution::{Entry, ObjectsAt};
 
 // What one transaction's turn comes to.
 #[derive(Clone, Copy)]
@@ -36,47 +36,33 @@ fn resume(
         result records.new table.new }
 {
     let mut registers: [i64; 4] = [0; 4];
-    let mut ro: [usize; 16] = [0; 16];
-    let mut rv: [i64; 16] = [0; 16];
-    let mut wo: [usize; 16] = [0; 16];
-    let mut wv: [i64; 16] = [0; 16];
-    let from = rows::load_row(
-        &records[row..next],
-        &mut registers,
-        &mut ro,
-        &mut rv,
-        &mut wo,
-        &mut wv,
-    );
+    let mut reads = [Entry::default(); 16];
+    let mut writes = [Entry::default(); 16];
+    let from = rows::load_row(&records[row..next], &mut registers, &mut reads, &mut writes);
     let e = execution_interpreter::execute(
         table,
         records,
         objects,
         body,
         &mut registers,
-        &mut ro,
-        &mut rv,
-        &mut wo,
-        &mut wv,
+        &mut reads,
+        &mut writes,
         from,
         budget,
     );
     let t = e.counts;
-    rows::store_row(&mut records[row..next], t, &registers, &ro, &rv, &wo, &wv);
-    if execution::is_finished(body, t.counter, t.outcome) {
-        execution::overlay(table, &wo, &wv, t.writes);
-        return Advanced {
-            used: e.used,
-            finished: true,
-        };
+    rows::store_row(&mut records[row..next], t, &registers, &reads, &writes);
+    let finished = execution::is_finished(body, t.counter, t.outcome);
+    if finished {
+        execution::overlay(table, &writes[..t.writes]);
     }
     Advanced {
         used: e.used,
-        finished: false,
+        finished,
     }
 }
 
-// Whether the run on record in this row is finished.
+// Whether the run on record in this row is finished. Apart from `shape::is_finished`, whose bytes may be any: the clauses differ.
 fn is_finished(row: &[u8], body: &[u8]) -> bool
     requires { Readable row.now × (0 < length body.now) }
     ensures { result ≡ ended (operations body.now) (before row.now) }

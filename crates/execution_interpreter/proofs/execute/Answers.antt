@@ -1,5 +1,5 @@
 -- Before and after each operation the laws of specs/Budget hold; the body's operations are valid since it is well formed.
-use Rattle.std.proofs.Common.{◌≡◌, List, ℕ, ◌+◌, ◌-◌, ◌≤◌, ◌<◌, arith}
+use Rattle.std.proofs.Common.{◌≡◌, List, ℕ, ◌+◌, ◌-◌, ◌<◌, arith}
 use Rattle.cells.specs.Cells.{cells}
 use Rattle.operation.specs.Body.{size, operation_at, operations}
 use Rattle.operation.proofs.BodyLaws.{formed, valid_at}
@@ -7,25 +7,14 @@ use Rattle.operation.specs.declared.Operation.{Operation}
 use Rattle.execution.specs.Run.{Table, object_count, apply, move, Run}
 use Rattle.execution.specs.LentTable.{lent_table}
 use Rattle.execution.specs.Arrays.{capacity, run_of_arrays}
-use Rattle.execution_interpreter.specs.Executes.{Executes}
-use Rattle.execution_interpreter.specs.Budget.{Going, at-end, spent, next, rewritten, apply-outcome, ended-stopped, ended-size, due-here, valid_more}
+use Rattle.execution_interpreter.specs.Budget.{Going, at-end, spent, next, ended-stopped, ended-size, due-here, valid_more}
 use Rattle.execution_interpreter.proofs.execute.Goals as goal
 
--- after operation x of the body b the invariant holds but for the outcome, which is one of four
+-- after operation x of the body b the invariant holds but for the outcome
 after : (T : Table) (b : List ℕ) (budget : ℕ) (first p q : Run) (used : ℕ) (x : Operation) → Going T (operations b) budget first used p → p.outcome ≡ 0
-    → used < budget → p.counter < size b → x ≡ operation_at b p.counter → q ≡ apply T (move x p.registers) p
-    → Going T (operations b) budget first (used + 1) q × (q.outcome ≤ 3)
+    → used < budget → p.counter < size b → x ≡ operation_at b p.counter → q ≡ apply T (move x p.registers) p → Going T (operations b) budget first (used + 1) q
 after T b budget first p q used x g z h l e f =
-    let d = rw e at f in (
-      next T (operations b) budget first used p g (operation_at b p.counter) q h (due-here b p z l) d,
-      apply-outcome T (move (operation_at b p.counter) p.registers) p q d,
-    )
-
--- the end of a run that stopped early with outcome k
-ended-early : (T : Table) (b : List ℕ) (budget : ℕ) (first q : Run) (used k : ℕ) → Going T (operations b) budget first used q → q.outcome ≡ k → 0 < k
-    → Executes T (operations b) budget first (record { counter = q.counter; outcome = k; registers = q.registers; reads = q.reads; writes = q.writes }) used
-ended-early T b budget first q used k g e h =
-    rewritten T (operations b) budget first used q k e (at-end T (operations b) budget first used q g (ended-stopped (operations b) q (omega arith)))
+    let d = rw e at f in next T (operations b) budget first used p g (operation_at b p.counter) q h (due-here b p z l) d
 
 pub bounds-body-0 : goal.bounds-body-0
 bounds-body-0 c =
@@ -33,83 +22,60 @@ bounds-body-0 c =
 
 pub operation_at-op-requires : goal.operation_at-op-requires
 operation_at-op-requires c =
-    (c.if-size-counter.false, (formed capacity (object_count c.args.table.now) c.args.body.now c.requires.body_value.0).whole)
+    (c.if-size-t.false, (formed capacity (object_count c.args.table.now) c.args.body.now c.requires.body_value.0).whole)
 
 pub step-t-requires-clause-counter_lt_capacity : goal.step-t-requires-clause-counter_lt_capacity
 step-t-requires-clause-counter_lt_capacity c =
     let b = c.args.body.now in
-    let i = c.loop-objects.t.counter in
-    let h = c.if-size-counter.false in
+    let i = c.loop-used.t.counter in
+    let h = c.if-size-t.false in
     let n = object_count c.args.table.now in
     let m = (formed capacity n b c.requires.body_value.0).most in
     (omega arith, rw c.operation_at-op.ensures (valid_more n (size b - (i + 1)) capacity (operation_at b i) (omega arith) (valid_at capacity n b c.requires.body_value.0 i h)), c.requires.lent_2.1)
 
-pub loop-objects-preserved : goal.loop-objects-preserved
-loop-objects-preserved c =
+pub loop-used-preserved : goal.loop-used-preserved
+loop-used-preserved c =
     let a = c.args in
-    let l = c.loop-objects in
+    let l = c.loop-used in
     let T = lent_table a.table.now a.objects (cells a.area.now) in
-    let first = run_of_arrays a.from a.registers.now a.ro.now a.rv.now a.wo.now a.wv.now in
-    let here = run_of_arrays l.t l.registers l.ro l.rv l.wo l.wv in
+    let first = run_of_arrays a.from a.registers.now a.reads.now a.writes.now in
+    let here = run_of_arrays l.t l.registers l.reads l.writes in
     let s = c.step-t in
-    let q = run_of_arrays s.result s.new.registers s.new.ro s.new.rv s.new.wo s.new.wv in
-    let x = after T a.body.now a.budget first here q l.used c.operation_at-op.result l.invariant.going l.invariant.outcome c.if-budget-used.false c.if-size-counter.false c.operation_at-op.ensures s.ensures.run in
-    record { going = x.0; outcome = omega (arith, x.1); lent = s.ensures.lent }
+    let q = run_of_arrays s.result s.new.registers s.new.reads s.new.writes in
+    record {
+      going = after T a.body.now a.budget first here q l.used c.operation_at-op.result l.invariant.going l.invariant.outcome (omega arith) c.if-size-t.false c.operation_at-op.ensures s.ensures.run;
+      outcome = omega arith;
+      lent = s.ensures.lent;
+      within = λ h. s.ensures.within;
+    }
 
-pub returns-then-size-counter-clause-run : goal.returns-then-size-counter-clause-run
-returns-then-size-counter-clause-run c =
+pub returns-then-size-t-clause-run : goal.returns-then-size-t-clause-run
+returns-then-size-t-clause-run c =
     let a = c.args in
-    let l = c.loop-objects in
+    let l = c.loop-used in
     let T = lent_table a.table.now a.objects (cells a.area.now) in
-    let first = run_of_arrays a.from a.registers.now a.ro.now a.rv.now a.wo.now a.wv.now in
-    let here = run_of_arrays l.t l.registers l.ro l.rv l.wo l.wv in
-    let v = l.invariant in
-    rewritten T (operations a.body.now) a.budget first l.used here 0 v.outcome
-    (at-end T (operations a.body.now) a.budget first l.used here v.going (ended-size a.body.now here c.if-size-counter.true))
+    let first = run_of_arrays a.from a.registers.now a.reads.now a.writes.now in
+    let here = run_of_arrays l.t l.registers l.reads l.writes in
+    at-end T (operations a.body.now) a.budget first l.used here l.invariant.going (ended-size a.body.now here c.if-size-t.true)
 
-pub returns-then-budget-used-clause-run : goal.returns-then-budget-used-clause-run
-returns-then-budget-used-clause-run c =
+pub returns-then-t-ne0-clause-run : goal.returns-then-t-ne0-clause-run
+returns-then-t-ne0-clause-run c =
     let a = c.args in
-    let l = c.loop-objects in
+    let l = c.loop-used in
     let T = lent_table a.table.now a.objects (cells a.area.now) in
-    let first = run_of_arrays a.from a.registers.now a.ro.now a.rv.now a.wo.now a.wv.now in
-    let here = run_of_arrays l.t l.registers l.ro l.rv l.wo l.wv in
-    let v = l.invariant in
-    rewritten T (operations a.body.now) a.budget first l.used here 0 v.outcome
-    (spent T (operations a.body.now) a.budget first l.used here v.going c.if-budget-used.true)
-
-pub returns-then-t-eq1-clause-run : goal.returns-then-t-eq1-clause-run
-returns-then-t-eq1-clause-run c =
-    let a = c.args in
-    let l = c.loop-objects in
-    let T = lent_table a.table.now a.objects (cells a.area.now) in
-    let first = run_of_arrays a.from a.registers.now a.ro.now a.rv.now a.wo.now a.wv.now in
-    let here = run_of_arrays l.t l.registers l.ro l.rv l.wo l.wv in
+    let first = run_of_arrays a.from a.registers.now a.reads.now a.writes.now in
+    let here = run_of_arrays l.t l.registers l.reads l.writes in
     let s = c.step-t in
-    let q = run_of_arrays s.result s.new.registers s.new.ro s.new.rv s.new.wo s.new.wv in
-    let x = after T a.body.now a.budget first here q l.used c.operation_at-op.result l.invariant.going l.invariant.outcome c.if-budget-used.false c.if-size-counter.false c.operation_at-op.ensures s.ensures.run in
-    ended-early T a.body.now a.budget first q (l.used + 1) 1 x.0 c.if-t-eq1.true (omega arith)
+    let q = run_of_arrays s.result s.new.registers s.new.reads s.new.writes in
+    let x = after T a.body.now a.budget first here q l.used c.operation_at-op.result l.invariant.going l.invariant.outcome (omega arith) c.if-size-t.false c.operation_at-op.ensures s.ensures.run in
+    at-end T (operations a.body.now) a.budget first (l.used + 1) q x (ended-stopped (operations a.body.now) q (omega arith))
 
-pub returns-then-t-eq2-clause-run : goal.returns-then-t-eq2-clause-run
-returns-then-t-eq2-clause-run c =
+pub returns-clause-run : goal.returns-clause-run
+returns-clause-run c =
     let a = c.args in
-    let l = c.loop-objects in
+    let l = c.loop-used in
     let T = lent_table a.table.now a.objects (cells a.area.now) in
-    let first = run_of_arrays a.from a.registers.now a.ro.now a.rv.now a.wo.now a.wv.now in
-    let here = run_of_arrays l.t l.registers l.ro l.rv l.wo l.wv in
-    let s = c.step-t in
-    let q = run_of_arrays s.result s.new.registers s.new.ro s.new.rv s.new.wo s.new.wv in
-    let x = after T a.body.now a.budget first here q l.used c.operation_at-op.result l.invariant.going l.invariant.outcome c.if-budget-used.false c.if-size-counter.false c.operation_at-op.ensures s.ensures.run in
-    ended-early T a.body.now a.budget first q (l.used + 1) 2 x.0 c.if-t-eq2.true (omega arith)
-
-pub returns-then-t-eq3-clause-run : goal.returns-then-t-eq3-clause-run
-returns-then-t-eq3-clause-run c =
-    let a = c.args in
-    let l = c.loop-objects in
-    let T = lent_table a.table.now a.objects (cells a.area.now) in
-    let first = run_of_arrays a.from a.registers.now a.ro.now a.rv.now a.wo.now a.wv.now in
-    let here = run_of_arrays l.t l.registers l.ro l.rv l.wo l.wv in
-    let s = c.step-t in
-    let q = run_of_arrays s.result s.new.registers s.new.ro s.new.rv s.new.wo s.new.wv in
-    let x = after T a.body.now a.budget first here q l.used c.operation_at-op.result l.invariant.going l.invariant.outcome c.if-budget-used.false c.if-size-counter.false c.operation_at-op.ensures s.ensures.run in
-    ended-early T a.body.now a.budget first q (l.used + 1) 3 x.0 c.if-t-eq3.true (omega arith)
+    let first = run_of_arrays a.from a.registers.now a.reads.now a.writes.now in
+    let here = run_of_arrays l.t l.registers l.reads l.writes in
+    let all : l.used ≡ a.budget = omega arith in
+    rw all at (spent T (operations a.body.now) a.budget first l.used here l.invariant.going (omega arith))

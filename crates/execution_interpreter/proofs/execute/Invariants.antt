@@ -1,21 +1,19 @@
 -- The rest of the budget leads where all of it leads from the start (`Going`), with outcome 0.
-use Rattle.std.proofs.Common.{◌≡◌, ◌-◌}
+use Rattle.std.proofs.Common.{◌≡◌}
 use Rattle.cells.specs.Cells.{cells}
 use Rattle.operation.specs.Body.{operations}
 use Rattle.execution.specs.LentTable.{lent_table}
-use Rattle.execution.specs.Arrays.{run_of_arrays, Lent}
+use Rattle.execution.specs.Arrays.{run_of_arrays, Lent, Within}
 use Rattle.execution_interpreter.specs.Budget.{Going}
 use Rattle.execution_interpreter.proofs.execute.Given as goal
 
-abbrev pub invariant-loop-objects : goal.invariant-loop-objects
-invariant-loop-objects l = record {
+abbrev pub invariant-loop-used : goal.invariant-loop-used
+invariant-loop-used l = record {
   going :
       Going (lent_table l.table l.objects (cells l.area)) (operations l.body) l.budget
-      (run_of_arrays l.initial.t l.initial.registers l.initial.ro l.initial.rv l.initial.wo l.initial.wv) l.used
-      (run_of_arrays l.t l.registers l.ro l.rv l.wo l.wv);
+      (run_of_arrays l.initial.t l.initial.registers l.initial.reads l.initial.writes) l.used
+      (run_of_arrays l.t l.registers l.reads l.writes);
   outcome : l.t.outcome ≡ 0;
-  lent : Lent l.t l.ro l.rv l.wo l.wv;
+  lent : Lent l.t l.reads l.writes;
+  within : Within l.initial.t → Within l.t;
 }
-
-abbrev pub decreases-loop-objects : goal.decreases-loop-objects
-decreases-loop-objects l = l.budget - l.used

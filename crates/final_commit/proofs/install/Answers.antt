@@ -1,44 +1,33 @@
 -- A turn is the law of one entry's block.
-use Rattle.std.proofs.Common.{arith}
-use Rattle.final_commit.specs.Install.{Turn, install-start, object-there, block_inside, push_lent, push_ok, install-step, install-end}
+use Rattle.std.proofs.Common.{◌<◌, ℕ, List, length, arith}
+use Rattle.execution.specs.Entries.{Entry}
+use Rattle.model.specs.declared.Limits.{Limits}
+use Rattle.layout.specs.Lawful.{Word}
+use Rattle.layout.specs.Offsets.{Sane}
+use Rattle.final_commit.specs.Install.{Installing, Turn, install-start, block_inside, push_lent, push_ok, install-step, install-end}
 use Rattle.final_commit.proofs.install.Goals as goal
 
-pub loop-i-init : goal.loop-i-init
-loop-i-init c = record { in_range = omega arith; installing = install-start _ _ _ _ _ _ _ }
+turn : {l : Limits} {b rs : List ℕ} {t : ℕ} {ws : List Entry} {c : List ℕ} {i : ℕ} → Sane l → Word t → i < length ws → Installing l b rs t ws c i → Turn l b rs t ws c i
+turn s w h k = record { sane = s; word = w; low = h; before = k }
 
-pub object_at-at-requires-clause-i_le_objects : goal.object_at-at-requires-clause-i_le_objects
-object_at-at-requires-clause-i_le_objects c =
-    let a = c.args in
-    let turn : Turn a.l a.records.now a.readers.now a.timestamp.0 a.count a.wo.now a.wv.now c.loop-i.records c.loop-i.i =
-    record { sane = c.requires.sane.0; word = omega arith; low = c.loop-i-test.true; before = c.loop-i.invariant.installing } in
-    omega (arith, object-there turn c.requires.ready)
+pub loop-e-init : goal.loop-e-init
+loop-e-init c = install-start _ _ _ _ _
 
 pub slice_bounds-push_version-end : goal.slice_bounds-push_version-end
 slice_bounds-push_version-end c =
-    let a = c.args in
-    let turn : Turn a.l a.records.now a.readers.now a.timestamp.0 a.count a.wo.now a.wv.now c.loop-i.records c.loop-i.i =
-    record { sane = c.requires.sane.0; word = omega arith; low = c.loop-i-test.true; before = c.loop-i.invariant.installing } in
-    block_inside turn c.requires.ready c.object_at-at.ensures.exact c.bounds_at-versions.ensures
+    block_inside (turn c.requires.sane (omega arith) c.loop-e-test.true c.loop-e.invariant) c.requires.ready c.object_at-at.ensures.exact c.bounds_at-versions.ensures
 
 pub push_version-requires : goal.push_version-requires
 push_version-requires c =
-    let a = c.args in
     let p = c.requires.ready in
     let e = c.object_at-at.ensures.exact in
     let w = c.bounds_at-versions.ensures in
-    let turn : Turn a.l a.records.now a.readers.now a.timestamp.0 a.count a.wo.now a.wv.now c.loop-i.records c.loop-i.i =
-    record { sane = c.requires.sane.0; word = omega arith; low = c.loop-i-test.true; before = c.loop-i.invariant.installing } in
-    (push_lent turn p e w, omega (arith, p.next), push_ok turn p e w)
+    let k = turn c.requires.sane (omega arith) c.loop-e-test.true c.loop-e.invariant in
+    rw c.from-stamp.ensures (push_lent k p e w, omega (arith, p.next), push_ok k p e w)
 
-pub loop-i-preserved : goal.loop-i-preserved
-loop-i-preserved c =
-    let a = c.args in
-    let turn : Turn a.l a.records.now a.readers.now a.timestamp.0 a.count a.wo.now a.wv.now c.loop-i.records c.loop-i.i =
-    record { sane = c.requires.sane.0; word = omega arith; low = c.loop-i-test.true; before = c.loop-i.invariant.installing } in
-    record {
-      in_range = omega arith;
-      installing = record { holds = λ p. install-step turn p c.object_at-at.ensures.exact c.bounds_at-versions.ensures _ c.push_version.ensures };
-    }
+pub loop-e-preserved : goal.loop-e-preserved
+loop-e-preserved c =
+    record { holds = λ p. install-step (turn c.requires.sane (omega arith) c.loop-e-test.true c.loop-e.invariant) p c.object_at-at.ensures.exact c.bounds_at-versions.ensures _ (rw c.from-stamp.ensures at c.push_version.ensures) }
 
 pub returns : goal.returns
-returns c = install-end _ _ _ _ _ _ _ _ _ (omega arith) c.loop-i.invariant.installing
+returns c = install-end _ _ _ _ _ _ _ c.loop-e-test.false c.loop-e.invariant

@@ -13,24 +13,19 @@ pub loop-i-preserved : goal.loop-i-preserved
 unfolding register_count
 loop-i-preserved c =
     let s = c.args in
-    let v = c.loop-i in
+    let l = c.loop-i in
     let g = s.registers.now in
     let row = cells s.row.now in
-    let z = get_or g v.i (pos 0) in
+    let z = get_or g l.i (pos 0) in
     let small : mag z < 2 ^ 63 = omega arith in
     let back : to_z w64 (of_z w64 z) ≡ z = read_back small in
-    let stored : cells c.put_signed.new.area ≡ set (cells v.row) (register_at v.i) (of_z w64 z) =
-    c.put_signed.ensures.cell ∙ ap (λ (y : ℤ). set (cells v.row) (register_at v.i) (of_z w64 y)) back in
-    record {
-      within = omega arith;
-      stored =
-          subst (Registers row g (v.i + 1)) (sym stored)
-          (registers-next row g v.i (cells v.row) (omega (arith, c.requires.0, c.requires.1, length-cells s.row.now)) (omega (arith, c.requires.1)) v.invariant.stored);
-    }
+    let stored : cells c.put_signed.new.area ≡ set (cells l.row) (register_at l.i) (of_z w64 z) =
+    c.put_signed.ensures.cell ∙ ap (λ (y : ℤ). set (cells l.row) (register_at l.i) (of_z w64 y)) back in
+    subst (Registers row g (l.i + 1)) (sym stored)
+    (registers-next row g l.i (cells l.row) (omega (arith, length-cells s.row.now)) (omega arith) l.invariant)
 
 pub returns : goal.returns
-unfolding register_count
 returns c =
     let s = c.args in
-    let v = c.loop-i in
-    registers-all (cells s.row.now) s.registers.now v.i (cells v.row) (omega (arith, c.requires.1)) v.invariant.stored
+    let l = c.loop-i in
+    registers-all (cells s.row.now) s.registers.now l.i (cells l.row) (omega arith) l.invariant

@@ -26,9 +26,9 @@ returns c =
           let e4 : b4 ≡ splice b3 (k * 8) (blank (entry_at m * 8 - k * 8)) = c.fill_zero.ensures ∙ ap (λ (x : ℕ). splice b3 (k * 8) (blank (x - k * 8))) (len3 ∙ n) in
           let room = c.requires.long in
           let c4 = ap cells e4 ∙ cells-fill b3 k (entry_at m) (omega arith) (omega arith) in
-          row_bytes before b4 (entry_at m) ((run m).enc (run_of_arrays t a.registers.now a.ro.now a.rv.now a.wo.now a.wv.now))
+          row_bytes before b4 (entry_at m) ((run m).enc (run_of_arrays t a.registers.now a.reads.now a.writes.now))
           (λ i. (bytes i).fits) (λ i. (c.type_inv.row i).fits) n (len4 ∙ n)
-          (row-stored t a.registers.now c.requires.registers a.ro.now a.rv.now a.wo.now a.wv.now m (cells before) (length_cells-whole (entry_at m) before n) (omega arith)
+          (row-stored t a.registers.now c.requires.registers a.reads.now a.writes.now (omega arith) (omega arith) m (cells before) (length_cells-whole (entry_at m) before n) (omega arith)
           (cells c.store_front.new.row) (cells c.store_entries.new.row) (cells b3) (cells b4)
           c.store_front.ensures c.store_entries.ensures c.store_entries-2.ensures c4);
     }
