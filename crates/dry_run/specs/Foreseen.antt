@@ -1,5 +1,5 @@
 -- What a dry run shows of the transaction found: the decision on it, and the values that the objects would hold. Assumes nothing.
-use Rattle.std.specs.Prelude.{◌≡◌, refl, Bool, true, false, pos, ltb, length, get_or}
+use Rattle.std.specs.Prelude.{◌≡◌, refl, Bool, true, false, pos, ltb, length, take, get_or, Ok}
 use Rattle.std.proofs.Math.Path.{sym, ap}
 use Rattle.std.proofs.Common.{◌∙◌, subst, arith, ltb-true, ltb-false}
 use Rattle.std.proofs.Math.Option
@@ -11,7 +11,6 @@ use Rattle.cells.specs.Cells.{cells}
 use Rattle.execution.specs.Entries.{Entry, lookup}
 use Rattle.execution.specs.Run.{Beside, beside, Table, value_of, table_of, object_count, over}
 use Rattle.execution.specs.RunShape.{every, sound}
-use Rattle.execution.specs.Arrays.{entries}
 use Rattle.model.specs.declared.Limits.{Limits}
 use Rattle.model.specs.declared.Preview.{Preview}
 use Rattle.model.specs.Calls.{previewed, preview_places}
@@ -37,7 +36,7 @@ shown_of r = interface.previewed (preview_of r.0 (map newest r.1.objects))
 
 -- r shows the commit of the transaction at position i, under whichever key it is delivered
 pub record Foresees (l : Limits) (b c : List ℕ) (i : ℕ) (r : Preview) : Type 0 where
-  pub shows : (p : Found l b c i) (cl sq : ℕ) → preview r ≡ interface.yielded (interface.observed (shown_of (commit_at p.replica cl sq i)))
+  pub shows : (p : Found l b c i) (cl sq : ℕ) → preview (Ok r) ≡ interface.yielded (interface.observed (shown_of (commit_at p.replica cl sq i)))
 
 module _ {l : Limits} {b c : List ℕ} {i : ℕ} (s : Sane l) (m : Local l) (p : Found l b c i) where
   abbrev u : Replica
@@ -54,10 +53,10 @@ module _ {l : Limits} {b c : List ℕ} {i : ℕ} (s : Sane l) (m : Local l) (p :
     pub places-inside : Inside b (get_or (cells b) (size_at l) 0) ps
     places-inside = subst (λ (n : ℕ). Inside b n ps) (sym (get-size l s b u p.holds)) (placed-inside s p.holds few places)
 
-    -- the decision, with its write set in two arrays
-    module _ {d : Decision} {wo : List ℕ} {wv : List ℤ} (g : Decides l b c i ps d wo wv) where
+    -- the decision, with its write set at the front of an array
+    module _ {d : Decision} {es : List Entry} (g : Decides l b c i ps d es) where
       abbrev ws : List Entry
-      ws = entries d.stored wo wv
+      ws = take d.stored es
 
       named : every (sound (length u.objects)) ws ≡ true
       named = (found.writes_named s m p e g).values

@@ -1,9 +1,11 @@
 -- The dry run on areas that pass the shape check: the refusal, or what the transaction found would come to. Assumes nothing.
-use Rattle.std.specs.Prelude.{◌≡◌, ℕ}
+use Rattle.std.specs.Prelude.{◌≡◌, ℕ, refl, Ok, Err}
 use Rattle.std.proofs.Math.Path.{sym, ap}
 use Rattle.std.proofs.Common.{◌∙◌}
 use Rattle.model.specs.declared.Limits.{Limits}
 use Rattle.model.specs.declared.Preview.{Preview}
+use Rattle.model.specs.declared.Refusal.{Refusal}
+use Rattle.model.specs.Answers.{number}
 use Rattle.model.specs.Interface as interface
 use Rattle.model.specs.Calls.{dry_run, Query, Answer, Yield, yielded}
 use Rattle.model.specs.Replica.{Pending, Replica, committed_table, validated, result, rework, commit, facts, perform}
@@ -15,15 +17,15 @@ use Rattle.layout.proofs.ContractLaws.{met-query}
 use Rattle.final_admission.specs.Admission.{Shaped, shaped-passed, Admitted, Turned, admitted_keyed, met_turned}
 use Rattle.final_decision.specs.FoundAt.{Found, passed_found, commit_at}
 use Rattle.dry_run.specs.Foreseen.{shown_of, Foresees}
-use Rattle.dry_run.specs.Previews.{Previews, turned_back, previews-refused, previews-accepted}
+use Rattle.dry_run.specs.Previews.{Previews, previews-refused, previews-accepted}
 
 module _ {l : Limits} {a : Areas} (q : Shaped l a) where
   abbrev u : Replica
   u = parse l a
 
   module _ (c s : ℕ) where
-    pub tried-refused : {k : ℕ} {r : Preview} → Turned l u c s k → r ≡ turned_back k → Previews l c s a r
-    tried-refused {k} f e = previews-refused e (met_turned (dry_run c s) q.fits (dry_run-judged l (facts u) c s) k f)
+    pub tried-refused : {e : Refusal} → Turned l u c s (number e) → Previews l c s a (Err e)
+    tried-refused {e} f = previews-refused refl (met_turned (dry_run c s) q.fits (dry_run-judged l (facts u) c s) (number e) f)
 
     -- the transaction at position i is found
     module _ {i : ℕ} (f : Admitted l u c s i) where
@@ -42,6 +44,6 @@ module _ {l : Limits} {a : Areas} (q : Shaped l a) where
           (ap (λ (w : Answer × Areas). w.0) (act-accepted l (dry_run c s) a q.fits (dry_run-judged l (facts u) c s ∙ f.accepted))
           ∙ ap (λ (j : Pending). yielded (shown j)) (admitted_keyed f))
 
-      pub tried-accepted : {r : Preview} → Foresees l a.0 a.1 i r → Previews l c s a r
+      pub tried-accepted : {r : Preview} → Foresees l a.0 a.1 i r → Previews l c s a (Ok r)
       tried-accepted h =
           previews-accepted (h.shows tried_found c s) (met-query l q.sane a q.bytes q.fits (Query.dry_run c s) _ accepted)

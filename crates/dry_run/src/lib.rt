@@ -13,12 +13,12 @@ ghost use Rattle.final_decision.specs.Decide.{Local};
 ghost use Rattle.final_decision.specs.FoundAt.{Found};
 ghost use Rattle.dry_run.specs.Values.{Gathered};
 ghost use Rattle.dry_run.specs.Foreseen.{Foresees};
-ghost use Rattle.dry_run.specs.Previews.{turned_back, Previews};
+ghost use Rattle.dry_run.specs.Previews.{Previews};
 
-use final_admission::Admission;
-use model::{Forecast, Limits, OptimisticPosition, Preview, Previewing};
+use execution::Entry;
+use model::{Limits, OptimisticPosition, Preview, Refusal};
 
-// The committed value of each object, from its place: the objects passed have theirs. Past the last object the array stays as it is.
+// The committed value of each object, from its place. Past the last object the array stays as it is.
 fn gather(records: &[u8], l: Limits, places: &[usize; 128], values: &mut [i64; 128])
     requires sane { Sane l }
     requires laid { Laid l records.now × Inside records.now (get_or (cells records.now) (size_at l) 0) places.now × (length values.old ≡ 128) }
@@ -26,11 +26,9 @@ fn gather(records: &[u8], l: Limits, places: &[usize; 128], values: &mut [i64; 1
         places.now values.old values.new }
 {
     let n = cells::get(records, layout::size_at(l)) as usize;
-    let mut o = 0;
-    while o < n {
+    for o in 0..n {
         let place = places[o];
         values[o] = cells::get_signed(records, place);
-        o += 1;
     }
 }
 
@@ -43,44 +41,36 @@ fn preview_at(records: &[u8], bodies: &[u8], l: Limits, position: OptimisticPosi
 {
     let mut places: [usize; 128] = [0; 128];
     final_walk::committed_places(records, l, &mut places);
-    let mut wo: [usize; 16] = [0; 16];
-    let mut wv: [i64; 16] = [0; 16];
-    let d = final_decision::decide(records, bodies, l, position, &places, &mut wo, &mut wv);
+    let mut writes = [Entry {
+        object: 0,
+        value: 0,
+    }; 16];
+    let d = final_decision::decide(records, bodies, l, position, &places, &mut writes);
     let stored = d.stored;
     let mut values: [i64; 128] = [0; 128];
     gather(records, l, &places, &mut values);
-    execution::overlay(&mut values, &wo, &wv, stored);
+    execution::overlay(&mut values, &writes[..stored]);
     let timestamp = final_admission::next_timestamp(records);
-    let would = Forecast {
+    Preview {
         outcome: d.outcome as u32,
         validated: d.validated,
         timestamp,
-    };
-    Preview {
-        answer: Previewing::Would(would),
         values,
     }
 }
 
-// A refusal: its number, and zeros beside it.
-pub fn refused(number: u32) -> Preview
-    ensures { result ≡ turned_back number }
-{
-    Preview {
-        answer: Previewing::Refused(number),
-        values: [0; 128],
-    }
-}
-
 // The dry run of a key: the refusal that its final delivery would get, or what it would come to.
-pub fn dry_run(records: &[u8], bodies: &[u8], l: Limits, client: u32, sequence: u32) -> Preview
+pub fn dry_run(
+    records: &[u8],
+    bodies: &[u8],
+    l: Limits,
+    client: u32,
+    sequence: u32,
+) -> Result<Preview, Refusal>
     requires supported { Supported l }
     requires bodies_value { fit l (records.now, bodies.now) ≡ true }
     ensures { Previews l client sequence (records.now, bodies.now) result }
 {
-    let admission = final_admission::admit(records, l, client, sequence);
-    match admission {
-        Admission::Refused(k) => refused(k),
-        Admission::At(position) => preview_at(records, bodies, l, position),
-    }
+    let position = final_admission::admit(records, l, client, sequence)?;
+    Ok(preview_at(records, bodies, l, position))
 }

@@ -13,7 +13,7 @@ ghost use Rattle.ffi.specs.Exported.{Exported};
 ghost use Rattle.ffi.specs.ExportedPart.{Low, ShownPart};
 
 use ffi_numbers::{Committed, Executed, Found, Previewed, Valued};
-use model::Finding;
+use model::Refusal;
 
 // Show body: which bytes of the body area.
 #[repr(C)]
@@ -23,17 +23,17 @@ pub struct Part {
     pub length: u32,
 }
 
-// The part of the body area where the found body stands.
-fn finding_part(f: Finding) -> Part
-    requires { Low standard f }
-    ensures { (result.start, result.length) ≡ part standard (finding f) }
+// The part of the body area where the found body stands. A function, since a From can require nothing of what it converts.
+fn finding_part(answer: Result<model::Found, Refusal>) -> Part
+    requires { Low standard answer }
+    ensures { (result.start, result.length) ≡ part standard (finding answer) }
 {
-    match f {
-        Finding::Found(position, length) => {
-            let start = layout::body_at(replica::STANDARD, position.0 as usize) as u32;
-            Part { start, length }
-        }
-        Finding::Refused(_) => Part {
+    match answer {
+        Ok(found) => Part {
+            start: layout::body_at(replica::STANDARD, found.position.0 as usize) as u32,
+            length: found.length,
+        },
+        Err(_) => Part {
             start: 0,
             length: 0,
         },
@@ -93,7 +93,7 @@ pub extern "C" fn jobstore_early(
 pub extern "C" fn jobstore_work(records: &mut [u8], bodies: &[u8], count: u32) -> Executed
     ensures { Exported (execute count) (records.old, bodies.now) (executed result) (records.new, bodies.now) }
 {
-    ffi_numbers::execution_numbers(replica::execute(records, bodies, count))
+    Executed::from(replica::execute(records, bodies, count))
 }
 
 // Final delivery of a key.
@@ -106,7 +106,7 @@ pub extern "C" fn jobstore_final(
 ) -> Committed
     ensures { Exported (final client sequence) (records.old, bodies.old) (committed result) (records.new, bodies.new) }
 {
-    ffi_numbers::delivery_numbers(replica::deliver_final(records, bodies, client, sequence))
+    Committed::from(replica::deliver_final(records, bodies, client, sequence))
 }
 
 // Open reader.
@@ -122,7 +122,7 @@ pub extern "C" fn jobstore_open_reader(records: &mut [u8], bodies: &[u8], reader
 pub extern "C" fn jobstore_read(records: &[u8], bodies: &[u8], reader: u32, object: u32) -> Valued
     ensures { Exported (read reader object) (records.now, bodies.now) (valued result) (records.now, bodies.now) }
 {
-    ffi_numbers::reading_numbers(replica::read(records, bodies, reader, object))
+    Valued::from(replica::read(records, bodies, reader, object))
 }
 
 // Close a reader.
@@ -138,7 +138,7 @@ pub extern "C" fn jobstore_close_reader(records: &mut [u8], bodies: &[u8], reade
 pub extern "C" fn jobstore_find(records: &[u8], bodies: &[u8], client: u32, sequence: u32) -> Found
     ensures { Exported (find client sequence) (records.now, bodies.now) (found result) (records.now, bodies.now) }
 {
-    ffi_numbers::finding_numbers(replica::find(records, bodies, client, sequence))
+    Found::from(replica::find(records, bodies, client, sequence))
 }
 
 // The part is named by its start, since C has no slices: Find says where it is, and one check of the areas is enough.
@@ -165,5 +165,5 @@ pub extern "C" fn jobstore_dry_run(
     ensures { Exported (dry_run client sequence) (records.now, bodies.now)
         (previewed result) (records.now, bodies.now) }
 {
-    ffi_numbers::preview_numbers(replica::dry_run(records, bodies, client, sequence))
+    Previewed::from(replica::dry_run(records, bodies, client, sequence))
 }

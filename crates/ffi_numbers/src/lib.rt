@@ -6,9 +6,9 @@ ghost use Rattle.model.specs.Calls.{preview_places};
 ghost use Rattle.model.specs.Answers.{reply, execution, delivery, reading, finding, preview};
 ghost use Rattle.ffi_numbers.specs.AnswerNumbers.{lone, executed, committed, valued, found, previewed, Numbered};
 
-use model::{Delivery, Execution, Finding, Preview, Previewing, Reading, Reply};
+use model::{Commit, Preview, Refusal, Version};
 
-// Work: operations carried out, pending transactions now finished.
+// Work: operations carried out, pending transactions now finished. Here and below a number of its own, and not a Result: the C interface.
 #[repr(C)]
 #[derive(Drop)]
 pub struct Executed {
@@ -58,116 +58,127 @@ pub struct Previewed {
     pub values: [i64; 128],
 }
 
-// An answer that is 0 or a refusal, as its number.
-pub fn reply_number(r: Reply) -> u32
+// An answer that is 0 or a refusal, as its number. A function, since neither type is of this crate.
+pub fn reply_number(r: Result<(), Refusal>) -> u32
     ensures { Numbered 0 (lone result) (reply r) }
 {
     match r {
-        Reply::Done => 0,
-        Reply::Refused(k) => k,
+        Ok(()) => 0,
+        Err(refusal) => u32::from(refusal),
     }
 }
 
 // Work's answer in the paper's numbers.
-pub fn execution_numbers(e: Execution) -> Executed
-    ensures { Numbered 2 (executed result) (execution e) }
-{
-    match e {
-        Execution::Executed(operations, finished) => Executed {
-            number: 0,
-            operations,
-            finished,
-        },
-        Execution::Refused(k) => Executed {
-            number: k,
-            operations: 0,
-            finished: 0,
-        },
+impl From<Result<model::Executed, Refusal>> for Executed {
+    ghost from_gives = { λ answer n. Numbered 2 (executed n) (execution answer) };
+
+    fn from(answer: Result<model::Executed, Refusal>) -> Executed {
+        match answer {
+            Ok(e) => Executed {
+                number: 0,
+                operations: e.operations,
+                finished: e.finished,
+            },
+            Err(refusal) => Executed {
+                number: u32::from(refusal),
+                operations: 0,
+                finished: 0,
+            },
+        }
     }
 }
 
 // A final delivery's answer in the paper's numbers.
-pub fn delivery_numbers(d: Delivery) -> Committed
-    ensures { Numbered 5 (committed result) (delivery d) }
-{
-    match d {
-        Delivery::Committed(c) => Committed {
-            number: 0,
-            outcome: c.outcome,
-            kept: c.validated as u32,
-            stamp: c.timestamp.0,
-            stored: c.stored,
-            operations: c.operations,
-        },
-        Delivery::Refused(k) => Committed {
-            number: k,
-            outcome: 0,
-            kept: 0,
-            stamp: 0,
-            stored: 0,
-            operations: 0,
-        },
+impl From<Result<Commit, Refusal>> for Committed {
+    ghost from_gives = { λ answer n. Numbered 5 (committed n) (delivery answer) };
+
+    fn from(answer: Result<Commit, Refusal>) -> Committed {
+        match answer {
+            Ok(c) => Committed {
+                number: 0,
+                outcome: c.outcome,
+                kept: u32::from(c.validated),
+                stamp: c.timestamp.0,
+                stored: c.stored,
+                operations: c.operations,
+            },
+            Err(refusal) => Committed {
+                number: u32::from(refusal),
+                outcome: 0,
+                kept: 0,
+                stamp: 0,
+                stored: 0,
+                operations: 0,
+            },
+        }
     }
 }
 
 // Read's answer in the paper's numbers.
-pub fn reading_numbers(r: Reading) -> Valued
-    ensures { Numbered 2 (valued result) (reading r) }
-{
-    match r {
-        Reading::Version(value, timestamp) => Valued {
-            number: 0,
-            value,
-            stamp: timestamp.0,
-        },
-        Reading::Refused(k) => Valued {
-            number: k,
-            value: 0,
-            stamp: 0,
-        },
+impl From<Result<Version, Refusal>> for Valued {
+    ghost from_gives = { λ answer n. Numbered 2 (valued n) (reading answer) };
+
+    fn from(answer: Result<Version, Refusal>) -> Valued {
+        match answer {
+            Ok(v) => Valued {
+                number: 0,
+                value: v.value,
+                stamp: v.timestamp.0,
+            },
+            Err(refusal) => Valued {
+                number: u32::from(refusal),
+                value: 0,
+                stamp: 0,
+            },
+        }
     }
 }
 
 // Find's answer in the paper's numbers.
-pub fn finding_numbers(f: Finding) -> Found
-    ensures { Numbered 2 (found result) (finding f) }
-{
-    match f {
-        Finding::Found(position, length) => Found {
-            number: 0,
-            place: position.0,
-            length,
-        },
-        Finding::Refused(k) => Found {
-            number: k,
-            place: 0,
-            length: 0,
-        },
+impl From<Result<model::Found, Refusal>> for Found {
+    ghost from_gives = { λ answer n. Numbered 2 (found n) (finding answer) };
+
+    fn from(answer: Result<model::Found, Refusal>) -> Found {
+        match answer {
+            Ok(f) => Found {
+                number: 0,
+                place: f.position.0,
+                length: f.length,
+            },
+            Err(refusal) => Found {
+                number: u32::from(refusal),
+                place: 0,
+                length: 0,
+            },
+        }
     }
 }
 
-// A dry run's answer in the paper's numbers. A refusal has zeros for the values, whatever stands beside it.
-pub fn preview_numbers(p: Preview) -> Previewed
-    ensures { Numbered (3 + preview_places) (previewed result) (preview p) }
-{
-    let answer = p.answer;
-    let values = p.values;
-    match answer {
-        Previewing::Would(f) => Previewed {
-            number: 0,
-            outcome: f.outcome,
-            kept: f.validated as u32,
-            stamp: f.timestamp.0,
-            values,
-        },
-        Previewing::Refused(k) => {
-            let zeros: [i64; 128] = [0; 128];
-            Previewed {
-                number: k,
-                outcome: 0,
-                kept: 0,
-                stamp: 0,
-                values: zeros,
+// A dry run's answer in the paper's numbers.
+impl From<Result<Preview, Refusal>> for Previewed {
+    ghost from_gives = { λ answer n. Numbered (3 + preview_places) (previewed n) (preview answer) };
+
+    fn from(answer: Result<Preview, Refusal>) -> Previewed {
+        match answer {
+            Ok(p) => {
+                let values = p.values;
+                Previewed {
+                    number: 0,
+                    outcome: p.outcome,
+                    kept: u32::from(p.validated),
+                    stamp: p.timestamp.0,
+                    values,
+                }
+            }
+            Err(refusal) => {
+                let values = [0; 128];
+                Previewed {
+                    number: u32::from(refusal),
+                    outcome: 0,
+                    kept: 0,
+                    stamp: 0,
+                    values,
+                }
             }
         }
     }

@@ -1,13 +1,17 @@
 -- The tests of a final delivery: what they say of whichever replica the record area holds. Assumes nothing.
-use Rattle.std.specs.Prelude.{◌≡◌, refl, Bool, true, false, not, List, [], ◌∷◌, ℕ, zero, suc, ◌≤◌, ◌<◌, leb, ltb, length, get_or}
+use Rattle.std.specs.Prelude.{◌≡◌, refl, Bool, true, false, not, List, [], ◌∷◌, ℕ, zero, suc, ◌≤◌, ◌<◌, leb, ltb, length, get_or, Option, Some, Result, Ok, Err}
+use Rattle.std.specs.Option.{ok_or}
 use Rattle.std.proofs.Common.{sym, ap, ◌∙◌, subst, arith, le-leb, lt-ltb, le-ltb}
 use Rattle.std.proofs.Math.Option.{none}
 use Rattle.std.proofs.lemmas.Bool.{lt-leb}
 use Rattle.cells.specs.Cells.{cells, Below}
 use Rattle.model.specs.declared.Limits.{Limits}
 use Rattle.model.specs.declared.OptimisticPosition.{OptimisticPosition}
+use Rattle.model.specs.declared.Refusal as refusals
+use Rattle.model.specs.declared.Refusal.{Refusal}
 use Rattle.model.specs.Lists.{index}
 use Rattle.model.specs.Calls.{Call, final, Answer, refused, clients, last_timestamp, is_key, spent, first_cause, causes, refusal}
+use Rattle.model.specs.Answers.{number}
 use Rattle.model.specs.Replica.{Pending, Replica, has_key, pending_of, keyed, facts}
 use Rattle.model.proofs.ListLaws.{any-map, any-index, pick-index}
 use Rattle.layout.specs.Layout.{Areas, parse}
@@ -19,10 +23,7 @@ use Rattle.layout.specs.Act.{asked}
 use Rattle.layout.proofs.Areas.{act-refused}
 use Rattle.layout.specs.Contract.{Met, Passed}
 use Rattle.layout.proofs.ContractLaws.{passed}
-use Rattle.queue.specs.declared.Place.{Place}
-use Rattle.queue.specs.Place.{Located, Spent}
-use Rattle.final_admission.specs.declared.Admission as admissions
-use Rattle.final_admission.specs.declared.Admission.{Admission}
+use Rattle.queue.specs.Place.{Located, Spent, found-there, found-nowhere}
 
 -- areas that pass the shape check
 pub record Shaped (l : Limits) (a : Areas) : Type 0 where
@@ -49,20 +50,20 @@ pub record Turned (l : Limits) (u : Replica) (c s k : ℕ) : Type 0 where
   pub some : 0 < k
 
 -- what a result says of the replica u
-abbrev pub Judged : Limits → Replica → ℕ → ℕ → Admission → Type 0
-Judged l u c s (admissions.TheVariants.At p) = Admitted l u c s p.0
-Judged l u c s (admissions.TheVariants.Refused k) = Turned l u c s k
+abbrev pub Judged : Limits → Replica → ℕ → ℕ → Result OptimisticPosition Refusal → Type 0
+Judged l u c s (Ok p) = Admitted l u c s p.0
+Judged l u c s (Err k) = Turned l u c s (number k)
 
 -- what `admit` ensures, of whichever replica the record area holds
-pub record Admits (l : Limits) (b : List ℕ) (c s : ℕ) (r : Admission) : Type 0 where
+pub record Admits (l : Limits) (b : List ℕ) (c s : ℕ) (r : Result OptimisticPosition Refusal) : Type 0 where
   pub judged : (u : Replica) → Holds l b u → Judged l u c s r
 
 -- what it says of u, once it is known which variant the result is
-module _ {l : Limits} {b : List ℕ} {u : Replica} {c s : ℕ} {r : Admission} (h : Holds l b u) (q : Admits l b c s r) where
-  pub admits_at : {p : OptimisticPosition} → r ≡ admissions.TheVariants.At p → Admitted l u c s p.0
+module _ {l : Limits} {b : List ℕ} {u : Replica} {c s : ℕ} {r : Result OptimisticPosition Refusal} (h : Holds l b u) (q : Admits l b c s r) where
+  pub admits_at : {p : OptimisticPosition} → r ≡ Ok p → Admitted l u c s p.0
   admits_at e = subst (Judged l u c s) e (q.judged u h)
 
-  pub admits_refused : {k : ℕ} → r ≡ admissions.TheVariants.Refused k → Turned l u c s k
+  pub admits_refused : {k : Refusal} → r ≡ Err k → Turned l u c s (number k)
   admits_refused e = subst (Judged l u c s) e (q.judged u h)
 
 -- the transaction that a delivery of the key speaks of is the one that stands there
@@ -113,15 +114,16 @@ module _ {l : Limits} {b : List ℕ} {u : Replica} (o : Sane l) (h : Holds l b u
     pub is-fresh : r ≡ false → Fresh u c s
     is-fresh m = record { client = k; fresh = sym (e.test u h) ∙ m }
 
-  -- r is the place that was found
-  module _ {c s : ℕ} {r : Place} (f : Fresh u c s) (e : Located l b c s r) where
-    pub is-missing : r.count ≤ r.position.0 → Turned l u c s 8
-    is-missing z =
-        let behind = le-ltb (index (has_key c s) u.pending) (length u.pending) (omega (arith, e.position u h, e.count u h)) in
-        record { number = tests l u c s false false false _ (lt-leb clients c f.client) f.fresh behind refl; some = omega arith }
+  -- r is where it was found, if it was
+  module _ {c s : ℕ} {r : Option OptimisticPosition} (f : Fresh u c s) (e : Located l b c s r) where
+    pub is-missing : {k : Refusal} → Err k ≡ ok_or r refusals.TheVariants.NotPending → Turned l u c s (number k)
+    is-missing m =
+        let q = found-nowhere e m in
+        let behind = le-ltb (index (has_key c s) u.pending) (length u.pending) (omega (arith, q.1 u h)) in
+        rw q.0 (record { number = tests l u c s false false false _ (lt-leb clients c f.client) f.fresh behind refl; some = omega arith })
 
-    pub is-standing : r.position.0 < r.count → Standing u c s r.position.0
-    is-standing z = record { fresh = f; position = e.position u h; there = omega (arith, e.count u h) }
+    pub is-standing : {p : OptimisticPosition} → r ≡ Some p → Standing u c s p.0
+    is-standing m = let q = found-there e m u h in record { fresh = f; position = q.0; there = q.1 }
 
   -- t is the timestamp now
   module _ {c s i t : ℕ} (f : Standing u c s i) (e : t ≡ get_or (cells b) 0 0) where

@@ -6,36 +6,30 @@ ghost use Rattle.layout.specs.Holds.{Holding};
 ghost use Rattle.final_admission.specs.Admission.{Admits};
 ghost use Rattle.final_admission.specs.NextTimestamp.{Before, NextAfter};
 
-use model::{CommitTimestamp, Limits, OptimisticPosition};
+use model::{CommitTimestamp, Limits, OptimisticPosition, Refusal};
 
-// Where the transaction to be committed stands, or the refusal.
-#[derive(Drop)]
-pub enum Admission {
-    At(OptimisticPosition),
-    Refused(u32),
-}
-
-// Whether the final delivery of a key is accepted: the four tests in the paper's order (3, 4, 8, 9). It writes nothing.
-pub fn admit(records: &[u8], l: Limits, client: u32, sequence: u32) -> Admission
+// Where the transaction to be committed stands, if the final delivery of its key is accepted: the four tests in the paper's order. It writes nothing.
+pub fn admit(
+    records: &[u8],
+    l: Limits,
+    client: u32,
+    sequence: u32,
+) -> Result<OptimisticPosition, Refusal>
     requires sane { Sane l }
     requires holding { Holding l records.now }
     ensures { Admits l records.now client sequence result }
 {
     if model::CLIENTS <= client {
-        return Admission::Refused(3);
+        return Err(Refusal::UnknownClient);
     }
     if queue::is_spent(records, l, client, sequence) {
-        return Admission::Refused(4);
+        return Err(Refusal::SpentKey);
     }
-    let place = queue::locate(records, l, client, sequence);
-    let position = place.position;
-    if place.count <= position.0 as usize {
-        return Admission::Refused(8);
-    }
+    let position = queue::locate(records, l, client, sequence).ok_or(Refusal::NotPending)?;
     if model::LAST_TIMESTAMP <= cells::get(records, layout::TIMESTAMP) {
-        return Admission::Refused(9);
+        return Err(Refusal::LastTimestamp);
     }
-    Admission::At(position)
+    Ok(position)
 }
 
 // The commit timestamp that the next commit takes.

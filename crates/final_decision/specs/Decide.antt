@@ -12,13 +12,13 @@ use Rattle.cells.specs.Cells.{cells}
 use Rattle.cells.specs.CellLaws.{cells-drop}
 use Rattle.operation.specs.Body.{listed, size, operations, is_well_formed, body_length}
 use Rattle.operation.specs.BodyLaws.{Formed}
-use Rattle.operation.proofs.BodyLaws.{formed, well_formed}
+use Rattle.operation.proofs.BodyLaws.{formed, well_formed, length-operations}
 use Rattle.execution.specs.declared.Counts.{Counts}
 use Rattle.execution.specs.declared.ObjectsAt.{ObjectsAt}
-use Rattle.execution.specs.Entries.{entry}
+use Rattle.execution.specs.Entries.{Entry, entry}
 use Rattle.execution.specs.Run.{Table, object_count, Run, is_none, due_at, whole, whole_count, matches}
 use Rattle.execution.specs.LentTable.{lent_table, BoundsWithin}
-use Rattle.execution.specs.Arrays.{capacity, entries}
+use Rattle.execution.specs.Arrays.{capacity, Lent}
 use Rattle.execution.specs.RunShape.{Shaped, every, sound}
 use Rattle.execution_interpreter.specs.declared.Executed.{Executed}
 use Rattle.execution_interpreter.specs.Executes.{InArrays}
@@ -30,7 +30,7 @@ use Rattle.model.specs.Serial.{Version}
 use Rattle.model.specs.Replica.{Pending, Replica, opens, committed_table, program, validated, result, rework, pending_of}
 use Rattle.model.proofs.Ceiling.{rework-kept}
 use Rattle.model.specs.Shape.{VersionsShape, Shape}
-use Rattle.model.proofs.ShapeParts.{pending_part}
+use Rattle.model.proofs.ShapeParts.{pending_part, table_fits, result-shaped}
 use Rattle.layout.specs.Layout.{body_of}
 use Rattle.layout.specs.Offsets.{Sane, row_at, counter_at, outcome_at, reads_at, entries_at, entry_at, body_width, body_at}
 use Rattle.layout.specs.Holds.{Holds, HoldsBodies}
@@ -63,15 +63,16 @@ holds-laid {l} {b} {u} s m h =
 abbrev pub decision_of : Counts → Bool → ℕ → Decision
 decision_of t kept w = record { outcome = t.outcome; validated = kept; stored = t.writes; operations = w }
 
--- the decision on j, its write set in two arrays
-pub record Decided (T : Table) (j : Pending) (r : Decision) (wo : List ℕ) (wv : List ℤ) : Type 0 where
+-- the decision on j, its write set at the front of an array
+pub record Decided (T : Table) (j : Pending) (r : Decision) (ws : List Entry) : Type 0 where
   pub validated : r.validated ≡ validated T j
   pub outcome : r.outcome ≡ (result T j).outcome
-  pub writes : entries r.stored wo wv ≡ (result T j).writes
+  pub within : r.stored ≤ length ws
+  pub writes : take r.stored ws ≡ (result T j).writes
   pub operations : r.operations ≡ rework T j
 
-pub decided-as : {T : Table} {j : Pending} {wo : List ℕ} {wv : List ℤ} {r d : Decision} → r ≡ d → Decided T j d wo wv → Decided T j r wo wv
-decided-as {T} {j} {wo} {wv} e h = subst (λ (x : Decision). Decided T j x wo wv) (sym e) h
+pub decided-as : {T : Table} {j : Pending} {ws : List Entry} {r d : Decision} → r ≡ d → Decided T j d ws → Decided T j r ws
+decided-as {T} {j} {ws} e h = subst (λ (x : Decision). Decided T j x ws) (sym e) h
 
 -- both areas hold a replica in shape, whose transaction i is to be decided; ps are the places of its committed state
 pub record Deciding (l : Limits) (b c : List ℕ) (i : ℕ) (ps : List ℕ) : Type 0 where
@@ -82,8 +83,8 @@ pub record Deciding (l : Limits) (b c : List ℕ) (i : ℕ) (ps : List ℕ) : Ty
   pub there : i < length replica.pending
   pub placed : Placed l (length replica.objects) ps
 
-pub record Decides (l : Limits) (b c : List ℕ) (i : ℕ) (ps : List ℕ) (r : Decision) (wo : List ℕ) (wv : List ℤ) : Type 0 where
-  pub decided : (p : Deciding l b c i ps) → Decided (committed_table p.replica) (at p.replica.pending i) r wo wv
+pub record Decides (l : Limits) (b c : List ℕ) (i : ℕ) (ps : List ℕ) (r : Decision) (ws : List Entry) : Type 0 where
+  pub decided : (p : Deciding l b c i ps) → Decided (committed_table p.replica) (at p.replica.pending i) r ws
 
 -- ---- the run on record
 
@@ -108,14 +109,17 @@ pub record Rerunning (l : Limits) (b body : List ℕ) : Type 0 where
   pub versions : committed.Current replica
   pub formed : is_well_formed capacity (length replica.objects) body ≡ true
 
--- the whole run of this body, in counts, with its write set in two arrays, and the operations that it carried out
-pub record Ran (T : Table) (body : List ℕ) (r : Executed) (wo : List ℕ) (wv : List ℤ) : Type 0 where
+-- the whole run of this body, in counts, with its write set at the front of an array, and the operations that it carried out
+pub record Ran (T : Table) (body : List ℕ) (r : Executed) (ws : List Entry) : Type 0 where
+  pub counter : r.counts.counter ≡ (whole T (operations body)).counter
   pub outcome : r.counts.outcome ≡ (whole T (operations body)).outcome
-  pub writes : entries r.counts.writes wo wv ≡ (whole T (operations body)).writes
+  pub bounded : r.counts.writes ≤ r.counts.counter
+  pub room : length ws ≡ capacity
+  pub writes : take r.counts.writes ws ≡ (whole T (operations body)).writes
   pub used : r.used ≡ whole_count T (operations body)
 
-pub record Reruns (l : Limits) (b body : List ℕ) (r : Executed) (wo : List ℕ) (wv : List ℤ) : Type 0 where
-  pub ran : (p : Rerunning l b body) → Ran (committed_table p.replica) body r wo wv
+pub record Reruns (l : Limits) (b body : List ℕ) (r : Executed) (ws : List Entry) : Type 0 where
+  pub ran : (p : Rerunning l b body) → Ran (committed_table p.replica) body r ws
 
 module _ {l : Limits} {b body : List ℕ} (s : Sane l) (m : Local l) (p : Rerunning l b body) where
   pub rerun_laid : committed.Laid l b
@@ -145,13 +149,20 @@ module _ {l : Limits} {b body : List ℕ} (s : Sane l) (m : Local l) (p : Rerunn
           subst (λ (x : ObjectsAt). BoundsWithin x (object_count (take n vs)) (length b)) (sym eq)
           (subst (λ (k : ℕ). BoundsWithin (committed.objects_place l) k (length b)) (sym as_many) (committed.bounds-within l s b p.replica p.holds))
 
-      pub values-ran : (r : Executed) (ro : List ℕ) (rv : List ℤ) (wo : List ℕ) (wv : List ℤ)
-          → InArrays (whole (lent_table (take n vs) q (cells b)) (operations body)) r.counts ro rv wo wv
-          → r.used ≡ whole_count (lent_table (take n vs) q (cells b)) (operations body) → Ran (committed_table p.replica) body r wo wv
-      values-ran r ro rv wo wv h w =
+      pub values-ran : (r : Executed) (rs ws : List Entry)
+          → InArrays (whole (lent_table (take n vs) q (cells b)) (operations body)) r.counts rs ws → Lent r.counts rs ws
+          → r.used ≡ whole_count (lent_table (take n vs) q (cells b)) (operations body) → Ran (committed_table p.replica) body r ws
+      values-ran r rs ws h y w =
           let T = ap (λ (x : ObjectsAt). lent_table (take n vs) x (cells b)) eq ∙ committed.committed-lent l s b p.replica p.holds p.versions e in
           let k = h ∙ ap (λ (x : Table). whole x (operations body)) T in
-          record { outcome = ap (λ (q : Run). q.outcome) k; writes = ap (λ (q : Run). q.writes) k; used = w ∙ ap (λ (x : Table). whole_count x (operations body)) T }
+          record {
+            counter = ap (λ (q : Run). q.counter) k;
+            outcome = ap (λ (q : Run). q.outcome) k;
+            bounded = y.bounded.writes;
+            room = y.write_room;
+            writes = ap (λ (q : Run). q.writes) k;
+            used = w ∙ ap (λ (x : Table). whole_count x (operations body)) T;
+          }
 
 -- ---- both, of transaction i
 
@@ -173,6 +184,11 @@ module _ {l : Limits} {i : ℕ} (u : Replica) (h : Shape l u) (there : i < lengt
   pub run_shaped : Shaped (length u.objects) (program (at u.pending i)) (at u.pending i).run
   run_shaped =
       all_in (λ (x : Pending). Shaped (length u.objects) (program x) x.run) u.pending i (pending_of none) (pending_part l u h).runs there
+
+  -- and the run that its decision comes to
+  pub decided_shaped : Shaped (length u.objects) (program (at u.pending i)) (result (committed_table u) (at u.pending i))
+  decided_shaped =
+      result-shaped l (length u.objects) (committed_table u) (table_fits u.objects u.bounds h.encoded.values) (at u.pending i) well_formed-body run_shaped
 
 module _ {l : Limits} {b c : List ℕ} {i : ℕ} {ps : List ℕ} (s : Sane l) (m : Local l) (p : Deciding l b c i ps) where
   abbrev u : Replica
@@ -272,9 +288,9 @@ module _ {l : Limits} {b c : List ℕ} {i : ℕ} {ps : List ℕ} (s : Sane l) (m
             let v = ap (to_z w64) (get_or-drop a (cells b) (entry_at x + 1) 0 ∙ ap (λ (y : ℕ). get_or (cells b) y 0) z) in
             λ q. entry (o q) (v q)
 
-        pub writes-loaded : (os : List ℕ) (vs : List ℤ) → entries t.writes os vs ≡ entries_in (cells (mid_of (a * 8) k b)) t.reads t.writes → entries t.writes os vs ≡ j.run.writes
+        pub writes-loaded : (ws : List Entry) → ws ≡ entries_in (cells (mid_of (a * 8) k b)) t.reads t.writes → ws ≡ j.run.writes
         unfolding entries_in writes_from
-        writes-loaded os vs e =
+        writes-loaded ws e =
             e ∙ ap (λ (x : List ℕ). entries_in x t.reads t.writes) row_cells
             ∙ listed_same (λ x. entry_in (drop a (cells b)) (t.reads + x)) (λ x. entry_from (cells b) a (t.reads + x)) t.writes (λ x h. same-entry (t.reads + x))
             ∙ ap₂ (λ (x y : ℕ). listed (λ z. entry_from (cells b) a (x + z)) y) et.reads et.writes
@@ -297,29 +313,32 @@ module _ {l : Limits} {b c : List ℕ} {i : ℕ} {ps : List ℕ} (s : Sane l) (m
               ∙ ap₂ (λ (x : List ℕ) (k : Bool). is_none (due_at (operations x) t.counter t.outcome) && k) (lent-body ex en ew) agree
               ∙ ap₂ (λ (x y : ℕ). is_none (due_at (program j) x y) && matches T j.run.reads) (et.counter ∙ ap (λ (y : ℕ). get_or (cells b) (y + counter_at) 0) ea ∙ row-counter l s b u p.holds i p.there) is-outcome
 
-          pub decided-validated : z ≡ true → {wo : List ℕ} {wv : List ℤ} → entries t.writes wo wv ≡ j.run.writes → Decided T j (decision_of t true 0) wo wv
+          pub decided-validated : z ≡ true → {ws : List Entry} → t.writes ≤ length ws → take t.writes ws ≡ j.run.writes → Decided T j (decision_of t true 0) ws
           unfolding result
-          decided-validated f h =
+          decided-validated f k h =
               let v : validated T j ≡ true = sym told ∙ f in
               let r : result T j ≡ j.run = ap (λ (y : Bool). cond y j.run (whole T (program j))) v in
               record {
                 validated = sym v;
                 outcome = is-outcome ∙ ap (λ (q : Run). q.outcome) (sym r);
+                within = k;
                 writes = h ∙ ap (λ (q : Run). q.writes) (sym r);
                 operations = sym (rework-kept T j v);
               }
 
-          pub decided-again : z ≡ false → {g : Executed} {wo : List ℕ} {wv : List ℤ} → Reruns l b (mid_of x (x + w - x) c) g wo wv → Decided T j (decision_of g.counts false g.used) wo wv
+          pub decided-again : z ≡ false → {g : Executed} {ws : List Entry} → Reruns l b (mid_of x (x + w - x) c) g ws → Decided T j (decision_of g.counts false g.used) ws
           unfolding result rework
-          decided-again f {g} {wo} {wv} h =
+          decided-again f {g} {ws} h =
               let v : validated T j ≡ false = sym told ∙ f in
               let r : result T j ≡ whole T (program j) = ap (λ (y : Bool). cond y j.run (whole T (program j))) v in
               let k = h.ran (rerunning ex en ew) in
               let e = ap (λ (y : List ℕ). whole T (operations y)) (lent-body ex en ew) ∙ sym r in
               let n = ap (λ (y : List ℕ). whole_count T (operations y)) (lent-body ex en ew) ∙ sym (ap (λ (y : Bool). cond y 0 (whole_count T (program j))) v) in
+              let q = form ex en ew in
               record {
                 validated = sym v;
                 outcome = k.outcome ∙ ap (λ (q : Run). q.outcome) e;
+                within = omega (arith, k.room, k.bounded, k.counter ∙ ap (λ (x : Run). x.counter) e, (decided_shaped u p.shape p.there).within, length-operations (body_of j), q.most, m.operations);
                 writes = k.writes ∙ ap (λ (q : Run). q.writes) e;
                 operations = k.used ∙ n;
               }

@@ -1,18 +1,17 @@
 -- The transaction found and the decision on it, before anything is written: what a commit and a dry run of it both know. Assumes nothing.
-use Rattle.std.specs.Prelude.{◌≡◌, List, ℕ, ◌≤◌, ◌<◌, ℤ, length, get_or}
-use Rattle.std.proofs.Common.{sym, ap, ◌∙◌, subst, arith}
+use Rattle.std.specs.Prelude.{◌≡◌, List, ℕ, ◌≤◌, ◌<◌, length, take, get_or}
+use Rattle.std.proofs.Common.{sym, ap, ◌∙◌, subst, arith, length-take-le}
 use Rattle.cells.specs.Cells.{cells}
 use Rattle.operation.proofs.BodyLaws.{length-operations}
 use Rattle.execution.specs.Run.{Table}
-use Rattle.execution.specs.Arrays.{capacity, entries}
-use Rattle.execution.proofs.Listed.{length-entries}
+use Rattle.execution.specs.Arrays.{capacity}
+use Rattle.execution.specs.Entries.{Entry}
 use Rattle.execution.specs.RunShape.{Shaped, Entries}
 use Rattle.model.specs.declared.Limits.{Limits}
 use Rattle.model.specs.Calls.{Committed, last_timestamp}
 use Rattle.model.specs.Replica.{Pending, Replica, committed_table, program, validated, result, rework, commit}
 use Rattle.model.proofs.Ceiling.{rework-most}
 use Rattle.model.specs.Shape.{Shape}
-use Rattle.model.proofs.ShapeParts.{table_fits, result-shaped}
 use Rattle.layout.specs.Layout.{Areas, parse, body_of}
 use Rattle.layout.specs.Offsets.{Sane, size_at}
 use Rattle.layout.specs.Holds.{Holds, HoldsBodies}
@@ -22,7 +21,7 @@ use Rattle.committed_table.specs.Committed as committed
 use Rattle.final_commit.specs.Positions.{at}
 use Rattle.final_walk.specs.Places.{Placed}
 use Rattle.final_decision.specs.declared.Decision.{Decision}
-use Rattle.final_decision.specs.Decide.{Local, holds-laid, Decided, Deciding, Decides, well_formed-body, body-formed, run_shaped}
+use Rattle.final_decision.specs.Decide.{Local, holds-laid, Decided, Deciding, Decides, body-formed, decided_shaped}
 
 -- both areas hold a replica in shape, one of whose transactions stands at position i
 pub record Found (l : Limits) (b c : List ℕ) (i : ℕ) : Type 0 where
@@ -59,9 +58,7 @@ module _ {l : Limits} {b c : List ℕ} {i : ℕ} (s : Sane l) (m : Local l) (p :
   found-laid = holds-laid s m p.holds
 
   pub shaped-result : Shaped (length u.objects) (program j) (result T j)
-  shaped-result =
-      result-shaped l (length u.objects) T (table_fits u.objects u.bounds p.shape.encoded.values) j
-      (well_formed-body u p.shape p.there) (run_shaped u p.shape p.there)
+  shaped-result = decided_shaped u p.shape p.there
 
   -- ps are the places of the committed state
   module _ {ps : List ℕ} (e : Placed l (get_or (cells b) (size_at l) 0) ps) where
@@ -72,18 +69,22 @@ module _ {l : Limits} {b c : List ℕ} {i : ℕ} (s : Sane l) (m : Local l) (p :
     found_deciding = record { replica = u; holds = p.holds; bodies = p.bodies; shape = p.shape; there = p.there; placed = placed }
 
     -- the decision
-    module _ {d : Decision} {wo : List ℕ} {wv : List ℤ} (g : Decides l b c i ps d wo wv) where
-      pub decided : Decided T j d wo wv
+    module _ {d : Decision} {ws : List Entry} (g : Decides l b c i ps d ws) where
+      pub decided : Decided T j d ws
       decided = g.decided found_deciding
 
-      pub writes_named : Entries (length u.objects) (entries d.stored wo wv)
+      pub writes_named : Entries (length u.objects) (take d.stored ws)
       writes_named = subst (Entries (length u.objects)) (sym decided.writes) shaped-result.writes
 
       pub outcome-small : d.outcome ≤ 3
       outcome-small = omega (arith, decided.outcome, shaped-result.outcome)
 
+      -- the part of the array that is stored
+      pub stored-lent : (d.stored ≤ length ws) × (d.stored ≡ length (take d.stored ws))
+      stored-lent = (decided.within, sym (length-take-le d.stored ws decided.within))
+
       pub stored-count : d.stored ≡ length (result T j).writes
-      stored-count = sym (length-entries d.stored wo wv) ∙ ap length decided.writes
+      stored-count = stored-lent.1 ∙ ap length decided.writes
 
       pub stored-few : d.stored ≤ capacity
       stored-few =

@@ -9,7 +9,7 @@ ghost use Rattle.final_walk.specs.Places.{Reaching};
 ghost use Rattle.final_walk.specs.Recorded.{Lying, reads_from};
 ghost use Rattle.final_decision.specs.Decide.{Local, decision_of, Deciding, Decides, CountsAt, valid_at, Rerunning, Reruns};
 
-use execution::Counts;
+use execution::{Counts, Entry};
 use execution_interpreter::Executed;
 use model::{Limits, OptimisticPosition};
 
@@ -34,7 +34,7 @@ fn decided(t: Counts, validated: bool, operations: usize) -> Decision
     }
 }
 
-// How far the run in the row at this cell has come.
+// How far the run in the row at this cell has come. Apart from `rows::load_row`, which is lent a row and loads all of it: as one they would be no plainer.
 fn counts_at(records: &[u8], at: usize) -> Counts
     requires { Lying records.now at }
     ensures { CountsAt (cells records.now) at result }
@@ -57,41 +57,25 @@ fn is_validated(records: &[u8], at: usize, body: &[u8], t: Counts, places: &[usi
     requires reaching { Reaching records.now places.now (reads_from (cells records.now) at) }
     ensures { result ≡ valid_at records.now places.now body.now t at }
 {
-    if execution::is_finished(body, t.counter, t.outcome) {
-        final_walk::reads_match(records, at, places)
-    } else {
-        false
-    }
+    execution::is_finished(body, t.counter, t.outcome)
+        && final_walk::reads_match(records, at, places)
 }
 
 // The whole run of this body on the committed state, and how many operations it carried out: its values are gathered for it, by the lookup that
-// readers use; stamps and bounds are lent where they stand. Its write set comes in two arrays.
-fn run_again(
-    records: &[u8],
-    l: Limits,
-    body: &[u8],
-    wo: &mut [usize; 16],
-    wv: &mut [i64; 16],
-) -> Executed
+// readers use; stamps and bounds are lent where they stand. Its write set comes at the front of an array.
+fn run_again(records: &[u8], l: Limits, body: &[u8], writes: &mut [Entry; 16]) -> Executed
     requires sane { Sane l × Local l }
-    requires rerunning { Rerunning l records.now body.now × Room wo.old wv.old }
-    ensures { Reruns l records.now body.now result wo.new wv.new }
+    requires rerunning { Rerunning l records.now body.now × Room writes.old }
+    ensures { Reruns l records.now body.now result writes.new }
 {
     let mut table: [i64; 128] = [0; 128];
     let n = committed_table::committed_values(records, l, &mut table);
     let objects = committed_table::objects_place(l);
-    let mut ro: [usize; 16] = [0; 16];
-    let mut rv: [i64; 16] = [0; 16];
-    execution_interpreter::run(
-        &table[..n],
-        records,
-        objects,
-        body,
-        &mut ro,
-        &mut rv,
-        wo,
-        wv,
-    )
+    let mut reads = [Entry {
+        object: 0,
+        value: 0,
+    }; 16];
+    execution_interpreter::run(&table[..n], records, objects, body, &mut reads, writes)
 }
 
 // The early results of the pending transaction at this position, if they are validated on the committed state, whose places are lent, else its whole
@@ -102,12 +86,11 @@ pub fn decide(
     l: Limits,
     position: OptimisticPosition,
     places: &[usize; 128],
-    wo: &mut [usize; 16],
-    wv: &mut [i64; 16],
+    writes: &mut [Entry; 16],
 ) -> Decision
     requires sane { Sane l × Local l }
-    requires deciding { Deciding l records.now bodies.now position.0 places.now × Room wo.old wv.old }
-    ensures { Decides l records.now bodies.now position.0 places.now result wo.new wv.new }
+    requires deciding { Deciding l records.now bodies.now position.0 places.now × Room writes.old }
+    ensures { Decides l records.now bodies.now position.0 places.now result writes.new }
 {
     let i = position.0 as usize;
     let first = layout::body_at(l, i);
@@ -117,9 +100,9 @@ pub fn decide(
     let t = counts_at(records, at);
     if is_validated(records, at, body, t, places) {
         let from = at * 8;
-        rows::load_entries(&records[from..], t.reads, t.writes, wo, wv);
+        rows::load_entries(&records[from..], t.reads, &mut writes[..t.writes]);
         return decided(t, true, 0);
     }
-    let again = run_again(records, l, body, wo, wv);
+    let again = run_again(records, l, body, writes);
     decided(again.counts, false, again.used)
 }

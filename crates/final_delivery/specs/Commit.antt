@@ -1,16 +1,14 @@
 -- A commit on both areas, step by step: what `commit_at` and its parts ask and leave. Assumes nothing.
-use Rattle.std.specs.Prelude.{◌≡◌, refl, ℕ, suc, ◌^◌, ◌≤◌, ◌<◌, ℤ, length, get_or, set}
+use Rattle.std.specs.Prelude.{◌≡◌, refl, ℕ, suc, ◌^◌, ◌≤◌, ◌<◌, length, take, get_or, set, Ok}
 use Rattle.std.proofs.Math.Path.{sym, ap, subst}
 use Rattle.std.proofs.Common.{ap₂, ◌∙◌, arith}
 use mathlib.Core.List.{List, map, map-map}
 use Rattle.cells.specs.Cells.{cells, Put}
 use Rattle.execution.specs.Entries.{Entry}
 use Rattle.execution.specs.Run.{Table}
-use Rattle.execution.specs.Arrays.{entries}
 use Rattle.execution.specs.RunShape.{Shaped}
 use Rattle.model.specs.declared.Limits.{Limits}
 use Rattle.model.specs.declared.Commit.{Commit}
-use Rattle.model.specs.declared.Delivery as deliveries
 use Rattle.model.specs.Lists.{keep}
 use Rattle.model.specs.ListLaws.{All}
 use Rattle.model.proofs.ListLaws.{all_keep}
@@ -68,7 +66,7 @@ marked {l} {t} {cl} {sq} {o} {b} {d} {e} s tt-small small h eo k =
 
 -- the answer r, and what both areas hold
 pub record Answered (l : Limits) (b c : List ℕ) (a : Committed × Replica) (r : Commit) : Type 0 where
-  pub answer : delivery (deliveries.TheVariants.Committed r) ≡ yielded (Yield.committed a.0)
+  pub answer : delivery (Ok r) ≡ yielded (Yield.committed a.0)
   pub areas : Both l b c a.1
 
 -- the areas, b and c before, are d and e after it
@@ -85,9 +83,9 @@ module _ {l : Limits} {b c : List ℕ} {cl i : ℕ} (s : Sane l) (m : Local l) (
   -- ps are the places of the committed state
   module _ {ps : List ℕ} (e : Placed l (get_or (cells b) (size_at l) 0) ps) where
     -- the decision and the next timestamp
-    module _ {d : Decision} {wo : List ℕ} {wv : List ℤ} {t : ℕ} (g : Decides l b c i ps d wo wv) (et : NextAfter b t) where
+    module _ {d : Decision} {es : List Entry} {t : ℕ} (g : Decides l b c i ps d es) (et : NextAfter b t) where
       abbrev ws : List Entry
-      ws = entries d.stored wo wv
+      ws = take d.stored es
 
       pub next : t ≡ suc u.timestamp
       next = next-timestamp s p.holds et

@@ -1,12 +1,12 @@
 -- The final delivery on areas that pass the shape check: the refusal, or the commit of the transaction found. Assumes nothing.
-use Rattle.std.specs.Prelude.{◌≡◌, refl, List, ℕ}
+use Rattle.std.specs.Prelude.{◌≡◌, refl, List, ℕ, Ok, Err}
 use Rattle.std.proofs.Common.{sym, ◌∙◌}
 use Rattle.std.proofs.Math.Path.{ap}
 use Rattle.model.specs.declared.Limits.{Limits}
 use Rattle.model.specs.declared.Commit.{Commit}
-use Rattle.model.specs.declared.Delivery as deliveries
+use Rattle.model.specs.declared.Refusal.{Refusal}
 use Rattle.model.specs.Calls.{final, Yield, Answer, yielded}
-use Rattle.model.specs.Answers.{delivery}
+use Rattle.model.specs.Answers.{number, delivery}
 use Rattle.model.specs.Replica.{Pending, perform, commit, validated, result, rework, committed_table}
 use Rattle.layout.specs.Layout.{Areas, parse, print}
 use Rattle.layout.specs.Act.{act}
@@ -19,8 +19,8 @@ use Rattle.final_delivery.specs.Commit.{Commits}
 
 module _ {l : Limits} {a : Areas} (q : Shaped l a) where
   -- a refusal: its number, and both areas as they were
-  pub met-refused : {cl sq : ℕ} (k : ℕ) → Turned l (parse l a) cl sq k → Met l (final cl sq) a (delivery (deliveries.TheVariants.Refused k)) a
-  met-refused {cl} {sq} k f = met_turned (final cl sq) q.fits refl k f
+  pub met-refused : {cl sq : ℕ} (e : Refusal) → Turned l (parse l a) cl sq (number e) → Met l (final cl sq) a (delivery (Err e)) a
+  met-refused {cl} {sq} e f = met_turned (final cl sq) q.fits refl (number e) f
 
   -- the transaction at position i is to be committed
   module _ {cl sq i : ℕ} (f : Admitted l (parse l a) cl sq i) where
@@ -37,7 +37,7 @@ module _ {l : Limits} {a : Areas} (q : Shaped l a) where
             let r = commit (parse l a) cl sq (validated T j) (result T j) (rework T j) in
             (yielded (Yield.committed r.0), print l r.1)
 
-    pub met-committed : {b c : List ℕ} {r : Commit} → Commits l cl sq i a.0 a.1 b c r → Met l (final cl sq) a (delivery (deliveries.TheVariants.Committed r)) (b, c)
+    pub met-committed : {b c : List ℕ} {r : Commit} → Commits l cl sq i a.0 a.1 b c r → Met l (final cl sq) a (delivery (Ok r)) (b, c)
     met-committed {b} {c} {r} h =
         let g = h.answered fit_found f.client in
         record {

@@ -11,8 +11,8 @@ ghost use Rattle.final_decision.specs.Decide.{Local};
 ghost use Rattle.final_decision.specs.FoundAt.{Found};
 ghost use Rattle.final_delivery.specs.Commit.{Commits, Marking, Marks};
 
-use final_admission::Admission;
-use model::{Commit, CommitTimestamp, Delivery, Limits, OptimisticPosition};
+use execution::Entry;
+use model::{Commit, CommitTimestamp, Limits, OptimisticPosition, Refusal};
 
 // The replica's timestamp and the client's last number after a commit.
 fn mark(records: &mut [u8], l: Limits, timestamp: CommitTimestamp, client: u32, sequence: u32)
@@ -20,11 +20,11 @@ fn mark(records: &mut [u8], l: Limits, timestamp: CommitTimestamp, client: u32, 
     requires marking { Marking l records.old client }
     ensures { Marks l timestamp.0 client sequence records.old records.new }
 {
-    cells::put(records, layout::TIMESTAMP, timestamp.0 as u64);
+    cells::put(records, layout::TIMESTAMP, u64::from(timestamp.0));
     cells::put(
         records,
         layout::last_at(l, client as usize),
-        sequence as u64,
+        u64::from(sequence),
     );
 }
 
@@ -44,12 +44,14 @@ fn commit_at(
 {
     let mut places: [usize; 128] = [0; 128];
     final_walk::committed_places(records, l, &mut places);
-    let mut wo: [usize; 16] = [0; 16];
-    let mut wv: [i64; 16] = [0; 16];
-    let d = final_decision::decide(records, bodies, l, position, &places, &mut wo, &mut wv);
+    let mut writes = [Entry {
+        object: 0,
+        value: 0,
+    }; 16];
+    let d = final_decision::decide(records, bodies, l, position, &places, &mut writes);
     let stored = d.stored;
     let timestamp = final_admission::next_timestamp(records);
-    final_commit::publish(records, l, timestamp, &wo, &wv, stored);
+    final_commit::publish(records, l, timestamp, &writes[..stored]);
     mark(records, l, timestamp, client, sequence);
     final_requeue::leave(records, bodies, l, client, sequence);
     final_walk::walk(records, l, &mut places);
@@ -69,18 +71,13 @@ pub fn deliver_final(
     l: Limits,
     client: u32,
     sequence: u32,
-) -> Delivery
+) -> Result<Commit, Refusal>
     requires supported { Supported l }
     requires bodies_value { fit l (records.old, bodies.old) ≡ true }
     ensures { Met l (final client sequence) (records.old, bodies.old)
         (delivery result) (records.new, bodies.new) }
 {
-    let admission = final_admission::admit(records, l, client, sequence);
-    match admission {
-        Admission::Refused(k) => Delivery::Refused(k),
-        Admission::At(position) => {
-            let done = commit_at(records, bodies, l, position, client, sequence);
-            Delivery::Committed(done)
-        }
-    }
+    let position = final_admission::admit(records, l, client, sequence)?;
+    let done = commit_at(records, bodies, l, position, client, sequence);
+    Ok(done)
 }

@@ -15,8 +15,7 @@ ghost use Rattle.final_walk.specs.Walk.{Walking, Stale, Walks};
 
 use model::{Limits, OptimisticPosition};
 
-// Where the committed state stands: each object's newest value has its cell in the object's block, and the objects passed have theirs. The place
-// runs, for an object's width is no power of two and a product per object costs more.
+// Where the committed state stands: each object's newest value has its cell in the object's block.
 pub fn committed_places(records: &[u8], l: Limits, places: &mut [usize; 128])
     requires sane { Sane l }
     requires laid { Laid l records.now × (length places.old ≡ 128) }
@@ -24,24 +23,20 @@ pub fn committed_places(records: &[u8], l: Limits, places: &mut [usize; 128])
 {
     let n = cells::get(records, layout::size_at(l)) as usize;
     let width = layout::object_width(l);
-    let mut place = layout::object_at(l, 0) + layout::NEWEST_VALUE;
-    let mut o = 0;
-    while o < n {
-        places[o] = place;
-        place += width;
-        o += 1;
+    let first = layout::object_at(l, 0) + layout::NEWEST_VALUE;
+    for o in 0..n {
+        places[o] = first + o * width;
     }
 }
 
-// Whether every value that the run in the row at this cell read from outside itself is the one that stands in the object's place. Those passed are.
+// Whether every value that the run in the row at this cell read from outside itself is the one that stands in the object's place.
 pub fn reads_match(records: &[u8], at: usize, places: &[usize; 128]) -> bool
     requires lying { Lying records.now at }
     requires reaching { Reaching records.now places.now (reads_from (cells records.now) at) }
     ensures { result ≡ matches (table_in (cells records.now) places.now) (reads_from (cells records.now) at) }
 {
     let count = cells::get(records, at + layout::ROW_READS) as usize;
-    let mut i = 0;
-    while i < count {
+    for i in 0..count {
         let cell = at + layout::ROW_FIRST_ENTRY + i * layout::ENTRY_WIDTH;
         let o = cells::get(records, cell) as usize;
         let read = cells::get_signed(records, cell + 1);
@@ -49,7 +44,6 @@ pub fn reads_match(records: &[u8], at: usize, places: &[usize; 128]) -> bool
         if cells::get_signed(records, place) != read {
             return false;
         }
-        i += 1;
     }
     true
 }
@@ -63,9 +57,7 @@ fn lay_writes(records: &[u8], at: usize, places: &mut [usize; 128])
 {
     let reads = cells::get(records, at + layout::ROW_READS) as usize;
     let total = cells::get(records, at + layout::ROW_ENTRIES) as usize;
-    let mut i = total - reads;
-    while 0 < i {
-        i -= 1;
+    for i in (0..total - reads).rev() {
         let cell = at + layout::ROW_FIRST_ENTRY + (reads + i) * layout::ENTRY_WIDTH;
         let o = cells::get(records, cell) as usize;
         places[o] = cell + 1;
@@ -80,17 +72,15 @@ fn first_stale(records: &[u8], l: Limits, places: &mut [usize; 128]) -> Optimist
     ensures { Stale l records.now places.old result.0 }
 {
     let count = cells::get(records, layout::pending_at(l)) as usize;
-    let mut i = 0;
-    while i < count {
+    for i in 0..count {
         let row = layout::row_at(l, i);
         if reads_match(records, row, places) {
             lay_writes(records, row, places);
-            i += 1;
         } else {
             return OptimisticPosition(i as u32);
         }
     }
-    OptimisticPosition(i as u32)
+    OptimisticPosition(count as u32)
 }
 
 // The pending transactions from this position on go back to their start, one after another: all of a row but its key is 0.
@@ -101,12 +91,10 @@ fn restart_from(records: &mut [u8], l: Limits, from: OptimisticPosition)
 {
     let pending = cells::get(records, layout::pending_at(l)) as usize;
     let first = from.0 as usize;
-    let mut i = first;
-    while i < pending {
+    for i in first..pending {
         let row = layout::row_at(l, i);
         let next = layout::row_at(l, i + 1);
         cells::fill_zero(records, (row + layout::ROW_COUNTER) * 8, next * 8);
-        i += 1;
     }
 }
 

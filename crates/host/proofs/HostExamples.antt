@@ -2,14 +2,13 @@
 use Rattle.std.specs.Prelude.{◌≡◌, refl, List, [], ◌∷◌, map, ℕ, pos, negsuc, replicate}
 use Rattle.operation.specs.Body.{register_count, listed}
 use Rattle.execution.specs.Entries.{entry}
-use Rattle.execution.specs.Arrays.{entries}
 use Rattle.execution.specs.Run.{start}
 use Rattle.model.specs.Calls.{last_timestamp}
 use Rattle.host.specs.declared.Counters.{Counters}
 use Rattle.host.specs.declared.PendingTransaction.{PendingTransaction}
 use Rattle.host.specs.Counting.{number_of_delivery, delivered, worked}
 use Rattle.host.specs.HostRestart.{unbegun, restarted, restarted_behind}
-use Rattle.host.proofs.HostReplica.{transaction_of}
+use Rattle.host.proofs.HostReplica.{entries, transaction_of}
 
 abbrev counts : ℕ → ℕ → ℕ → Counters
 counts t p f = record { timestamp = t; pending = p; finished = f }

@@ -3,7 +3,7 @@
 --     delivery-counted   a final delivery that is taken, counted, gives its timestamp; one that is refused with 9 is refused here too
 --     restart_same       restarting records from a place on is restarting the model's transactions from there on
 --     walk-restart       so, from the right place on, it is what a final delivery's walk does
-use Rattle.std.specs.Prelude.{◌≡◌, refl, Bool, false, not, cond, List, [], ◌∷◌, ◌++◌, map, ℕ, zero, suc, ◌≤◌, length, get_or, take, drop}
+use Rattle.std.specs.Prelude.{◌≡◌, refl, Bool, false, not, cond, List, [], ◌∷◌, ◌++◌, map, ℕ, zero, suc, ℤ, pos, ◌≤◌, length, get_or, take, drop}
 use Rattle.std.proofs.Common.{sym, ap, subst, ◌∙◌, arith}
 use Rattle.std.proofs.Math.Bool.{true}
 use Rattle.std.proofs.Math.Numerals.{add-one}
@@ -11,8 +11,7 @@ use borrow.Author.Tests.{le-leb}
 use Rattle.std.proofs.Math.Dec.{leb}
 use Rattle.std.proofs.lemmas.List.{length-map}
 use Rattle.operation.specs.Body.{listed}
-use Rattle.execution.specs.Entries.{Entry}
-use Rattle.execution.specs.Arrays.{entries}
+use Rattle.execution.specs.Entries.{Entry, entry}
 use Rattle.execution.specs.Run.{Table, start, matches, over}
 use Rattle.model.specs.declared.Limits.{Limits}
 use Rattle.model.specs.Lists.{any, count}
@@ -27,6 +26,10 @@ use Rattle.host.specs.Counting.{number_of_delivery, delivered, worked}
 use Rattle.host.specs.HostRestart.{restarted, restarted_behind}
 
 -- ---- pending transactions
+
+-- the first n entries, whose objects and values stand in two arrays
+unfoldable pub entries : ℕ → List ℕ → List ℤ → List Entry
+entries n os vs = listed (λ i. entry (get_or os i 0) (get_or vs i (pos 0))) n
 
 -- a record as the model's pending transaction; its body stands in the body area
 abbrev pub transaction_of : PendingTransaction → List ℕ → Pending

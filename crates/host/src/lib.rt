@@ -1,12 +1,12 @@
 // Thin forms for the cabinet's host, over records that it lends: the counters of a replica, and the pending transactions as a list.
-// Each takes a record apart for a function of its numbers and stores what that returned; every branch but the loop's stands in such a function.
 #![tactic(auto)]
 
-ghost use Rattle.std.specs.Prelude.{◌≡◌};
-ghost use Rattle.host.specs.Counting.{timestamp_after, number_of_delivery, delivered, finished_after, worked};
+ghost use Rattle.std.specs.Prelude.{◌≡◌, MatchResult};
+ghost use Rattle.model.specs.Answers.{number};
+ghost use Rattle.host.specs.Counting.{timestamp_after, number_of_delivery, delivered, worked};
 ghost use Rattle.host.specs.HostRestart.{unbegun, restarted_behind};
 
-use model::LAST_TIMESTAMP;
+use model::{LAST_TIMESTAMP, Refusal};
 
 #[repr(C)]
 #[derive(Drop)]
@@ -18,27 +18,16 @@ pub struct Counters {
     pub finished: u32,
 }
 
-// The commit timestamp after one delivery; the highest stays.
+// The commit timestamp after one delivery; the highest has none after it.
 #[tactic(auto, unfolding(model::specs::Calls::last_timestamp))]
-fn next_timestamp(timestamp: u32) -> u32
-    ensures { result ≡ timestamp_after timestamp }
+fn next_timestamp(timestamp: u32) -> Result<u32, Refusal>
+    ensures { MatchResult result (λ t. (number_of_delivery timestamp ≡ 0) × (t ≡ timestamp_after timestamp))
+        (λ r. (number_of_delivery timestamp ≡ number r) × (timestamp ≡ timestamp_after timestamp)) }
 {
-    if timestamp as u64 == LAST_TIMESTAMP {
-        return timestamp;
+    if u64::from(timestamp) == LAST_TIMESTAMP {
+        return Err(Refusal::LastTimestamp);
     }
-    timestamp + 1
-}
-
-// 0 where a delivery can be counted, 9 at the highest timestamp.
-#[tactic(auto, unfolding(model::specs::Calls::last_timestamp))]
-fn delivery_number(timestamp: u32) -> u32
-    ensures { result ≡ number_of_delivery timestamp }
-{
-    if timestamp as u64 == LAST_TIMESTAMP {
-        9
-    } else {
-        0
-    }
+    Ok(timestamp + 1)
 }
 
 // One delivery counted: the timestamp up by 1, the other counts as before; at the highest timestamp 9 and no change.
@@ -46,19 +35,13 @@ fn delivery_number(timestamp: u32) -> u32
 pub extern "C" fn jobstore_count_delivery(c: &mut Counters) -> u32
     ensures { (result ≡ number_of_delivery c.old.timestamp) × (c.new ≡ delivered c.old) }
 {
-    let timestamp = c.timestamp;
-    c.timestamp = next_timestamp(timestamp);
-    delivery_number(timestamp)
-}
-
-// The number of finished transactions after work; one above the pending ones is not taken.
-fn finished_count(pending: u32, before: u32, finished: u32) -> u32
-    ensures { result ≡ finished_after pending before finished }
-{
-    if pending < finished {
-        return before;
+    match next_timestamp(c.timestamp) {
+        Ok(timestamp) => {
+            c.timestamp = timestamp;
+            0
+        }
+        Err(refusal) => u32::from(refusal),
     }
-    finished
 }
 
 // Work counted: so many pending transactions are now finished, as work answered. More than are pending changes nothing.
@@ -66,8 +49,9 @@ fn finished_count(pending: u32, before: u32, finished: u32) -> u32
 pub extern "C" fn jobstore_count_work(c: &mut Counters, finished: u32)
     ensures { c.new ≡ worked c.old finished }
 {
-    let pending = c.pending;
-    c.finished = finished_count(pending, c.finished, finished);
+    if finished <= c.pending {
+        c.finished = finished;
+    }
 }
 
 // A pending transaction ("job record"): a row of the record area, line by line.
@@ -83,6 +67,7 @@ pub struct PendingTransaction {
     // the number of reads, and that of reads and writes: the reads stand first, right behind them the writes
     pub reads: u32,
     pub entries: u32,
+    // two arrays, and numbers beside them: the C interface
     pub objects: [u8; 16],
     pub values: [i64; 16],
 }
@@ -92,19 +77,16 @@ pub struct PendingTransaction {
 fn not_begun(client: u32, sequence: u32) -> PendingTransaction
     ensures { result ≡ unbegun client sequence }
 {
-    let registers = [0i64; 4];
-    let objects = [0u8; 16];
-    let values = [0i64; 16];
     PendingTransaction {
         client,
         sequence,
         counter: 0,
         outcome: 0,
-        registers,
+        registers: [0; 4],
         reads: 0,
         entries: 0,
-        objects,
-        values,
+        objects: [0; 16],
+        values: [0; 16],
     }
 }
 
@@ -113,11 +95,7 @@ fn not_begun(client: u32, sequence: u32) -> PendingTransaction
 pub extern "C" fn jobstore_restart_from(rows: &mut [PendingTransaction], place: usize)
     ensures { rows.new ≡ restarted_behind place rows.old }
 {
-    let mut i = place;
-    while i < rows.len() {
-        let client = rows[i].client;
-        let sequence = rows[i].sequence;
-        rows[i] = not_begun(client, sequence);
-        i += 1;
+    for i in place..rows.len() {
+        rows[i] = not_begun(rows[i].client, rows[i].sequence);
     }
 }

@@ -10,8 +10,7 @@ ghost use Rattle.layout.specs.Contract.{Supported, Met};
 ghost use Rattle.optimistic_delivery.specs.Delivered.{Room, Appended};
 
 use layout::key_cell;
-use model::{Limits, Reply};
-use operation::Decoded;
+use model::{Limits, Refusal};
 
 // Puts a transaction at its start into the first unused place: its key, the count and its body. All else of an unused place is 0 already.
 fn append(records: &mut [u8], bodies: &mut [u8], l: Limits, count: usize, key: u64, body: &[u8])
@@ -35,31 +34,29 @@ pub fn deliver_optimistic(
     client: u32,
     sequence: u32,
     body: &[u8],
-) -> Reply
+) -> Result<(), Refusal>
     requires supported { Supported l }
     requires bodies_value { fit l (records.old, bodies.old) ≡ true }
     ensures { Met l (optimistic client sequence body.now) (records.old, bodies.old)
         (reply result) (records.new, bodies.new) }
 {
     if model::CLIENTS <= client {
-        return Reply::Refused(3);
+        return Err(Refusal::UnknownClient);
     }
     if queue::is_spent(records, l, client, sequence) {
-        return Reply::Refused(4);
+        return Err(Refusal::SpentKey);
     }
-    let place = queue::locate(records, l, client, sequence);
-    let count = place.count;
-    let position = place.position;
-    if (position.0 as usize) < count {
-        return Reply::Refused(5);
+    if queue::locate(records, l, client, sequence).is_some() {
+        return Err(Refusal::AlreadyPending);
     }
     let objects = cells::get(records, layout::size_at(l)) as usize;
-    let Decoded::WellFormed(_) = operation_decoder::decode(body, l.operations, objects) else {
-        return Reply::Refused(6);
-    };
+    if operation_decoder::decode(body, l.operations, objects).is_none() {
+        return Err(Refusal::MalformedBody);
+    }
+    let count = cells::get(records, layout::pending_at(l)) as usize;
     if l.pending <= count {
-        return Reply::Refused(7);
+        return Err(Refusal::QueueFull);
     }
     append(records, bodies, l, count, key_cell(client, sequence), body);
-    Reply::Done
+    Ok(())
 }

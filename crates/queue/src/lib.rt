@@ -11,14 +11,7 @@ ghost use Rattle.layout.specs.Contract.{Supported, Met};
 ghost use Rattle.queue.specs.Place.{Located, Spent};
 ghost use Rattle.queue.specs.Shown.{Shown};
 
-use model::{Finding, Limits, OptimisticPosition};
-
-// Where a transaction stands among the pending ones, in optimistic order (their number where it is not among them), and their number.
-#[derive(Drop)]
-pub struct Place {
-    pub position: OptimisticPosition,
-    pub count: usize,
-}
+use model::{Found, Limits, OptimisticPosition, Refusal};
 
 // Whether a client's key is spent: its sequence number is not above the client's last number.
 pub fn is_spent(records: &[u8], l: Limits, client: u32, sequence: u32) -> bool
@@ -26,11 +19,11 @@ pub fn is_spent(records: &[u8], l: Limits, client: u32, sequence: u32) -> bool
     requires holding { Holding l records.now }
     ensures { Spent l records.now client sequence result }
 {
-    sequence as u64 <= cells::get(records, layout::last_at(l, client as usize))
+    u64::from(sequence) <= cells::get(records, layout::last_at(l, client as usize))
 }
 
-// Looks a transaction up among the pending ones.
-pub fn locate(records: &[u8], l: Limits, client: u32, sequence: u32) -> Place
+// Where a transaction stands among the pending ones, in optimistic order; None where it is not among them.
+pub fn locate(records: &[u8], l: Limits, client: u32, sequence: u32) -> Option<OptimisticPosition>
     requires sane { Sane l }
     requires holding { Holding l records.now }
     ensures { Located l records.now client sequence result }
@@ -38,32 +31,30 @@ pub fn locate(records: &[u8], l: Limits, client: u32, sequence: u32) -> Place
     let count = cells::get(records, layout::pending_at(l)) as usize;
     let at = layout::row_at(l, 0) * 8;
     let key = layout::key_cell(client, sequence);
-    let i = layout::key_index(&records[at..], layout::row_width(l), count, key);
-    Place {
-        position: OptimisticPosition(i as u32),
-        count,
-    }
+    let i = layout::key_index(&records[at..], layout::row_width(l), count, key)?;
+    Some(OptimisticPosition(i as u32))
 }
 
 // Find: the optimistic position of a pending transaction and the length of its body.
-pub fn find(records: &[u8], bodies: &[u8], l: Limits, client: u32, sequence: u32) -> Finding
+pub fn find(
+    records: &[u8],
+    bodies: &[u8],
+    l: Limits,
+    client: u32,
+    sequence: u32,
+) -> Result<Found, Refusal>
     requires supported { Supported l }
     requires bodies_value { fit l (records.now, bodies.now) ≡ true }
     ensures { Met l (find-call client sequence) (records.now, bodies.now)
         (finding result) (records.now, bodies.now) }
 {
     if model::CLIENTS <= client {
-        return Finding::Refused(3);
+        return Err(Refusal::UnknownClient);
     }
-    let place = locate(records, l, client, sequence);
-    let position = place.position;
-    let i = position.0 as usize;
-    if place.count <= i {
-        return Finding::Refused(8);
-    }
-    let at = layout::body_at(l, i);
-    let length = operation::body_length(operation::small(bodies[at]));
-    Finding::Found(position, length as u32)
+    let position = locate(records, l, client, sequence).ok_or(Refusal::NotPending)?;
+    let at = layout::body_at(l, position.0 as usize);
+    let length = operation::body_length(operation::small(bodies[at])) as u32;
+    Ok(Found { position, length })
 }
 
 // Show body: the part of the body area that is a pending transaction's body; the empty part where Find refuses.
@@ -78,11 +69,11 @@ pub fn show_body<'a>(
     requires bodies_value { fit l (records.now, bodies.now) ≡ true }
     ensures { Shown l records.now bodies.entry result client sequence }
 {
-    let Finding::Found(position, length) = find(records, bodies, l, client, sequence) else {
+    let Ok(found) = find(records, bodies, l, client, sequence) else {
         return &bodies[..0];
     };
-    let index = position.0 as usize;
-    let n = length as usize;
+    let index = found.position.0 as usize;
+    let n = found.length as usize;
     let at = layout::body_at(l, index);
     let end = at + n;
     &bodies[at..end]

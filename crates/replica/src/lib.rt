@@ -1,5 +1,6 @@
 // One replica of the standard kind ("cabinet unit") over the two areas that the caller lends: the public calls. Each makes the shape check and hands
-// its answer on to the call at any limits.
+// its answer on to the call at any limits. They are alike but for the call and stand one by one: a call is a promise of its own, and one function for all
+// would be no plainer.
 #![tactic(auto, unfolding(model::specs::Limits::standard))]
 
 ghost use Rattle.std.specs.Prelude.{◌≡◌};
@@ -12,7 +13,7 @@ ghost use Rattle.queue.specs.Shown.{Shown};
 ghost use Rattle.dry_run.specs.Previews.{Previews};
 ghost use Rattle.layout.specs.Contract.{Met};
 
-use model::{Delivery, Execution, Finding, Limits, Preview, Reading, Reply};
+use model::{Commit, Executed, Found, Limits, Preview, Refusal, Version};
 
 // The limits of the standard kind ("cabinet unit").
 pub const STANDARD: Limits = Limits {
@@ -38,7 +39,7 @@ pub fn open(
     lower: &[i64],
     upper: &[i64],
     timestamp: u32,
-) -> Reply
+) -> Result<(), Refusal>
     ensures { Met standard (opening (by_values n values.now lower.now upper.now timestamp))
         (records.old, bodies.old) (reply result) (records.new, bodies.new) }
 {
@@ -54,7 +55,7 @@ pub fn deliver_optimistic(
     client: u32,
     sequence: u32,
     body: &[u8],
-) -> Reply
+) -> Result<(), Refusal>
     ensures { Met standard (optimistic client sequence body.now) (records.old, bodies.old)
         (reply result) (records.new, bodies.new) }
 {
@@ -63,7 +64,7 @@ pub fn deliver_optimistic(
 }
 
 // Open reader: it takes the current timestamp.
-pub fn open_reader(records: &mut [u8], bodies: &[u8], reader: u32) -> Reply
+pub fn open_reader(records: &mut [u8], bodies: &[u8], reader: u32) -> Result<(), Refusal>
     ensures { Met standard (open_reader reader) (records.old, bodies.now)
         (reply result) (records.new, bodies.now) }
 {
@@ -72,7 +73,7 @@ pub fn open_reader(records: &mut [u8], bodies: &[u8], reader: u32) -> Reply
 }
 
 // Read: the version of an object that the reader sees, value and stamp.
-pub fn read(records: &[u8], bodies: &[u8], reader: u32, object: u32) -> Reading
+pub fn read(records: &[u8], bodies: &[u8], reader: u32, object: u32) -> Result<Version, Refusal>
     ensures { Met standard (read-call reader object) (records.now, bodies.now)
         (reading result) (records.now, bodies.now) }
 {
@@ -81,7 +82,7 @@ pub fn read(records: &[u8], bodies: &[u8], reader: u32, object: u32) -> Reading
 }
 
 // Close: the reader ends, and the versions that it alone held go.
-pub fn close_reader(records: &mut [u8], bodies: &[u8], reader: u32) -> Reply
+pub fn close_reader(records: &mut [u8], bodies: &[u8], reader: u32) -> Result<(), Refusal>
     ensures { Met standard (close_reader reader) (records.old, bodies.now)
         (reply result) (records.new, bodies.now) }
 {
@@ -90,7 +91,7 @@ pub fn close_reader(records: &mut [u8], bodies: &[u8], reader: u32) -> Reply
 }
 
 // Find: the optimistic position of a pending transaction and the length of its body.
-pub fn find(records: &[u8], bodies: &[u8], client: u32, sequence: u32) -> Finding
+pub fn find(records: &[u8], bodies: &[u8], client: u32, sequence: u32) -> Result<Found, Refusal>
     ensures { Met standard (find-call client sequence) (records.now, bodies.now)
         (finding result) (records.now, bodies.now) }
 {
@@ -107,7 +108,7 @@ pub fn show_body<'a>(records: &[u8], bodies: &'a [u8], client: u32, sequence: u3
 }
 
 // Work: at most so many operations of the pending transactions, in optimistic order.
-pub fn execute(records: &mut [u8], bodies: &[u8], count: u32) -> Execution
+pub fn execute(records: &mut [u8], bodies: &[u8], count: u32) -> Result<Executed, Refusal>
     ensures { Met standard (execute-call count) (records.old, bodies.now)
         (execution result) (records.new, bodies.now) }
 {
@@ -116,7 +117,12 @@ pub fn execute(records: &mut [u8], bodies: &[u8], count: u32) -> Execution
 }
 
 // Final delivery: the transaction commits, its early results kept where they are still valid.
-pub fn deliver_final(records: &mut [u8], bodies: &mut [u8], client: u32, sequence: u32) -> Delivery
+pub fn deliver_final(
+    records: &mut [u8],
+    bodies: &mut [u8],
+    client: u32,
+    sequence: u32,
+) -> Result<Commit, Refusal>
     ensures { Met standard (final client sequence) (records.old, bodies.old)
         (delivery result) (records.new, bodies.new) }
 {
@@ -125,7 +131,12 @@ pub fn deliver_final(records: &mut [u8], bodies: &mut [u8], client: u32, sequenc
 }
 
 // Dry run: what the final delivery of a pending key would come to now, and the value that each object would then hold.
-pub fn dry_run(records: &[u8], bodies: &[u8], client: u32, sequence: u32) -> Preview
+pub fn dry_run(
+    records: &[u8],
+    bodies: &[u8],
+    client: u32,
+    sequence: u32,
+) -> Result<Preview, Refusal>
     ensures { Previews standard client sequence (records.now, bodies.now) result }
 {
     let shaped = standard_shape(records, bodies);

@@ -2,7 +2,7 @@
 // place. A kind of replica (`replica`; the limits are its own) is a set of wrappers over these.
 #![tactic(auto)]
 
-ghost use Rattle.std.specs.Prelude.{◌≡◌};
+ghost use Rattle.std.specs.Prelude.{◌≡◌, true, false, MatchResult};
 ghost use Rattle.model.specs.Calls.{by_values, opening, optimistic, open_reader, read as read-call, close_reader};
 ghost use Rattle.model.specs.Calls.{find as find-call, execute as execute-call, final};
 ghost use Rattle.model.specs.Answers.{reply, execution, delivery, reading, finding};
@@ -11,7 +11,7 @@ ghost use Rattle.layout.specs.Contract.{Supported, Met};
 ghost use Rattle.queue.specs.Shown.{Shown};
 ghost use Rattle.dry_run.specs.Previews.{Previews};
 
-use model::{Delivery, Execution, Finding, Limits, Preview, Reading, Reply};
+use model::{Commit, Executed, Found, Limits, Preview, Refusal, Version};
 
 // Open: its lengths, its counts and its start values are judged, in this order, before anything is written.
 pub fn open(
@@ -23,25 +23,30 @@ pub fn open(
     lower: &[i64],
     upper: &[i64],
     timestamp: u32,
-) -> Reply
+) -> Result<(), Refusal>
     requires { Supported l }
     ensures { Met l (opening (by_values n values.now lower.now upper.now timestamp))
         (records.old, bodies.old) (reply result) (records.new, bodies.new) }
 {
-    if records.len() != layout::record_length(l) {
-        return Reply::Refused(1);
+    if records.len() != layout::record_length(l) || bodies.len() != layout::bodies_length(l) {
+        return Err(Refusal::Shape);
     }
-    if bodies.len() != layout::bodies_length(l) {
-        return Reply::Refused(1);
+    if !opening::counts_ok(l, n as usize, values, lower, upper) {
+        return Err(Refusal::Miscounted);
     }
-    if opening::counts_ok(l, n as usize, values, lower, upper) {
-        if opening::starts_inside(values, lower, upper) {
-            opening::fill(records, bodies, l, values, lower, upper, timestamp);
-            return Reply::Done;
-        }
-        return Reply::Refused(15);
+    if !opening::starts_inside(values, lower, upper) {
+        return Err(Refusal::StartOutside);
     }
-    Reply::Refused(2)
+    opening::fill(records, bodies, l, values, lower, upper, timestamp);
+    Ok(())
+}
+
+// The refusal of areas that fail the shape check: the first step of each call below, before anything is read.
+fn require_shape(shaped: bool) -> Result<(), Refusal>
+    ensures { MatchResult result (λ done. shaped ≡ true)
+        (λ refusal. (refusal ≡ Refusal.Shape) × (shaped ≡ false)) }
+{
+    if shaped { Ok(()) } else { Err(Refusal::Shape) }
 }
 
 // Early delivery. `shaped` is the shape check's answer, here and below: the crate above makes the check, once, with its limits folded in.
@@ -53,31 +58,31 @@ pub fn deliver_optimistic(
     client: u32,
     sequence: u32,
     body: &[u8],
-) -> Reply
+) -> Result<(), Refusal>
     requires supported { Supported l }
     requires shaped_value { shaped ≡ fit l (records.old, bodies.old) }
     ensures { Met l (optimistic client sequence body.now) (records.old, bodies.old)
         (reply result) (records.new, bodies.new) }
 {
-    if shaped {
-        optimistic_delivery::deliver_optimistic(records, bodies, l, client, sequence, body)
-    } else {
-        Reply::Refused(1)
-    }
+    require_shape(shaped)?;
+    optimistic_delivery::deliver_optimistic(records, bodies, l, client, sequence, body)
 }
 
 // Open reader.
-pub fn open_reader(records: &mut [u8], bodies: &[u8], l: Limits, shaped: bool, reader: u32) -> Reply
+pub fn open_reader(
+    records: &mut [u8],
+    bodies: &[u8],
+    l: Limits,
+    shaped: bool,
+    reader: u32,
+) -> Result<(), Refusal>
     requires supported { Supported l }
     requires shaped_value { shaped ≡ fit l (records.old, bodies.now) }
     ensures { Met l (open_reader reader) (records.old, bodies.now)
         (reply result) (records.new, bodies.now) }
 {
-    if shaped {
-        snapshots::open_reader(records, l, reader)
-    } else {
-        Reply::Refused(1)
-    }
+    require_shape(shaped)?;
+    snapshots::open_reader(records, l, reader)
 }
 
 // Read.
@@ -88,17 +93,14 @@ pub fn read(
     shaped: bool,
     reader: u32,
     object: u32,
-) -> Reading
+) -> Result<Version, Refusal>
     requires supported { Supported l }
     requires shaped_value { shaped ≡ fit l (records.now, bodies.now) }
     ensures { Met l (read-call reader object) (records.now, bodies.now)
         (reading result) (records.now, bodies.now) }
 {
-    if shaped {
-        snapshots::read(records, l, reader, object)
-    } else {
-        Reading::Refused(1)
-    }
+    require_shape(shaped)?;
+    snapshots::read(records, l, reader, object)
 }
 
 // Close.
@@ -108,17 +110,14 @@ pub fn close_reader(
     l: Limits,
     shaped: bool,
     reader: u32,
-) -> Reply
+) -> Result<(), Refusal>
     requires supported { Supported l }
     requires shaped_value { shaped ≡ fit l (records.old, bodies.now) }
     ensures { Met l (close_reader reader) (records.old, bodies.now)
         (reply result) (records.new, bodies.now) }
 {
-    if shaped {
-        snapshots::close_reader(records, l, reader)
-    } else {
-        Reply::Refused(1)
-    }
+    require_shape(shaped)?;
+    snapshots::close_reader(records, l, reader)
 }
 
 // Find.
@@ -129,17 +128,14 @@ pub fn find(
     shaped: bool,
     client: u32,
     sequence: u32,
-) -> Finding
+) -> Result<Found, Refusal>
     requires supported { Supported l }
     requires shaped_value { shaped ≡ fit l (records.now, bodies.now) }
     ensures { Met l (find-call client sequence) (records.now, bodies.now)
         (finding result) (records.now, bodies.now) }
 {
-    if shaped {
-        queue::find(records, bodies, l, client, sequence)
-    } else {
-        Finding::Refused(1)
-    }
+    require_shape(shaped)?;
+    queue::find(records, bodies, l, client, sequence)
 }
 
 // Show body: the empty part where the areas fail the check, as where Find refuses.
@@ -163,17 +159,20 @@ pub fn show_body<'a>(
 }
 
 // Work.
-pub fn execute(records: &mut [u8], bodies: &[u8], l: Limits, shaped: bool, count: u32) -> Execution
+pub fn execute(
+    records: &mut [u8],
+    bodies: &[u8],
+    l: Limits,
+    shaped: bool,
+    count: u32,
+) -> Result<Executed, Refusal>
     requires supported { Supported l }
     requires shaped_value { shaped ≡ fit l (records.old, bodies.now) }
     ensures { Met l (execute-call count) (records.old, bodies.now)
         (execution result) (records.new, bodies.now) }
 {
-    if shaped {
-        speculative_execution::execute(records, bodies, l, count)
-    } else {
-        Execution::Refused(1)
-    }
+    require_shape(shaped)?;
+    speculative_execution::execute(records, bodies, l, count)
 }
 
 // Final delivery.
@@ -184,17 +183,14 @@ pub fn deliver_final(
     shaped: bool,
     client: u32,
     sequence: u32,
-) -> Delivery
+) -> Result<Commit, Refusal>
     requires supported { Supported l }
     requires shaped_value { shaped ≡ fit l (records.old, bodies.old) }
     ensures { Met l (final client sequence) (records.old, bodies.old)
         (delivery result) (records.new, bodies.new) }
 {
-    if shaped {
-        final_delivery::deliver_final(records, bodies, l, client, sequence)
-    } else {
-        Delivery::Refused(1)
-    }
+    require_shape(shaped)?;
+    final_delivery::deliver_final(records, bodies, l, client, sequence)
 }
 
 // The dry run.
@@ -205,14 +201,11 @@ pub fn dry_run(
     shaped: bool,
     client: u32,
     sequence: u32,
-) -> Preview
+) -> Result<Preview, Refusal>
     requires supported { Supported l }
     requires shaped_value { shaped ≡ fit l (records.now, bodies.now) }
     ensures { Previews l client sequence (records.now, bodies.now) result }
 {
-    if shaped {
-        dry_run::dry_run(records, bodies, l, client, sequence)
-    } else {
-        dry_run::refused(1)
-    }
+    require_shape(shaped)?;
+    dry_run::dry_run(records, bodies, l, client, sequence)
 }

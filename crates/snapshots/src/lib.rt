@@ -2,56 +2,65 @@
 // reads each object as of that timestamp, and is closed, whereupon the versions that it alone held go.
 #![tactic(auto)]
 
+ghost use Rattle.std.specs.Prelude.{◌≡◌, ◌≤◌, ◌<◌, MatchResult};
 ghost use Rattle.model.specs.Answers.{reply, reading};
 ghost use Rattle.model.specs.Calls.{open_reader, read as read-call, close_reader};
+ghost use Rattle.layout.specs.Offsets.{Sane, CellAt, reader_at};
 ghost use Rattle.layout.specs.Contract.{Supported, HoldsShaped, MetBeside};
 ghost use Rattle.snapshots.specs.ClosePruning.{Prunable, Pruned};
 
-use model::{CommitTimestamp, Limits, Reading, Reply};
+use model::{CommitTimestamp, Limits, Refusal, Version};
+
+// Where the cell of a reader lies, if the replica has such a reader: the first test of each call.
+fn reader_cell(l: Limits, reader: u32) -> Result<usize, Refusal>
+    requires { Sane l }
+    ensures { MatchResult result (λ at. (reader < l.readers) × CellAt l (reader_at reader) at)
+        (λ refusal. (refusal ≡ Refusal.UnknownReader) × (l.readers ≤ reader)) }
+{
+    let r = reader as usize;
+    if l.readers <= r {
+        return Err(Refusal::UnknownReader);
+    }
+    Ok(layout::reader_at(l, r))
+}
 
 // Opens a reader that is closed: its cell takes the timestamp + 1, so that one opened at timestamp 0 does not look closed.
-pub fn open_reader(records: &mut [u8], l: Limits, reader: u32) -> Reply
+pub fn open_reader(records: &mut [u8], l: Limits, reader: u32) -> Result<(), Refusal>
     requires supported { Supported l }
     requires holds_shaped { HoldsShaped l records.old }
     ensures { MetBeside l (open_reader reader) records.old records.new (reply result) }
 {
-    let r = reader as usize;
-    if l.readers <= r {
-        return Reply::Refused(10);
-    }
-    let at = layout::reader_at(l, r);
+    let at = reader_cell(l, reader)?;
     if 0 < cells::get(records, at) {
-        return Reply::Refused(11);
+        return Err(Refusal::ReaderOpen);
     }
     let timestamp = cells::get(records, layout::TIMESTAMP);
     cells::put(records, at, timestamp + 1);
-    Reply::Done
+    Ok(())
 }
 
 // The version that an open reader sees of an object: looked up in the block of its versions by the reader's stamp, which its cell has with 1 added.
-pub fn read(records: &[u8], l: Limits, reader: u32, object: u32) -> Reading
+pub fn read(records: &[u8], l: Limits, reader: u32, object: u32) -> Result<Version, Refusal>
     requires supported { Supported l }
     requires holds_shaped { HoldsShaped l records.now }
     ensures { MetBeside l (read-call reader object) records.now records.now (reading result) }
 {
-    let r = reader as usize;
-    if l.readers <= r {
-        return Reading::Refused(10);
-    }
-    let cell = cells::get(records, layout::reader_at(l, r));
-    if cell == 0 {
-        return Reading::Refused(12);
-    }
+    let at = reader_cell(l, reader)?;
+    let since = cells::get(records, at)
+        .checked_sub(1)
+        .ok_or(Refusal::ReaderNotOpen)?;
     let o = object as usize;
     if cells::get(records, layout::size_at(l)) as usize <= o {
-        return Reading::Refused(13);
+        return Err(Refusal::UnknownObject);
     }
     let first = layout::object_at(l, o) * 8;
     let end = first + layout::bounds_at(l) * 8;
-    let since = cell - 1;
     let seen = versions::lookup(&records[first..end], since);
     let stamp = seen.stamp as u32;
-    Reading::Version(seen.value, CommitTimestamp(stamp))
+    Ok(Version {
+        value: seen.value,
+        timestamp: CommitTimestamp(stamp),
+    })
 }
 
 // The versions that no open reader holds any more go, now that the reader with this cell is closed. Pruning takes the readers' cells beside the
@@ -71,24 +80,20 @@ fn prune(records: &mut [u8], l: Limits, cell: u64, snapshots: &mut [u8])
 }
 
 // Closes an open reader, and takes out what it alone held.
-pub fn close_reader(records: &mut [u8], l: Limits, reader: u32) -> Reply
+pub fn close_reader(records: &mut [u8], l: Limits, reader: u32) -> Result<(), Refusal>
     requires supported { Supported l }
     requires holds_shaped { HoldsShaped l records.old }
     ensures { MetBeside l (close_reader reader) records.old records.new (reply result) }
 {
-    let r = reader as usize;
-    if l.readers <= r {
-        return Reply::Refused(10);
-    }
-    let at = layout::reader_at(l, r);
+    let at = reader_cell(l, reader)?;
     let cell = cells::get(records, at);
     if cell == 0 {
-        return Reply::Refused(12);
+        return Err(Refusal::ReaderNotOpen);
     }
     cells::put(records, at, 0);
     // room for the cells of as many readers as the limits may have
     let mut snapshots = [0u8; 128];
     let end = l.readers * 8;
-    prune(records, l, cell, &mut snapshots[0..end]);
-    Reply::Done
+    prune(records, l, cell, &mut snapshots[..end]);
+    Ok(())
 }

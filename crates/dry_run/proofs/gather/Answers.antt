@@ -9,7 +9,4 @@ pub loop-o-preserved : goal.loop-o-preserved
 loop-o-preserved c =
     let few = c.requires.laid.1.few in
     let at = ap (λ (x : ℕ). get_or (cells c.args.records.now) x 0) c.size_at.ensures.exact in
-    record {
-      within = omega arith;
-      gathered = gathered_next (omega (arith, c.get-n.ensures, at)) c.loop-o.invariant.gathered (told c.get_signed.type_inv c.get_signed.ensures);
-    }
+    gathered_next (omega (arith, c.get-n.ensures, at)) c.loop-o.invariant (told c.get_signed.type_inv c.get_signed.ensures)

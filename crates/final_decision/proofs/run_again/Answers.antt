@@ -13,7 +13,7 @@ pub run-requires-clause-body_value : goal.run-requires-clause-body_value
 run-requires-clause-body_value c =
     let s = c.requires.sane in
     let p = c.requires.rerunning in
-    (values-formed s.0 s.1 p.0 c.committed_values-n.ensures, record { objects = refl; values = refl }, p.1)
+    (values-formed s.0 s.1 p.0 c.committed_values-n.ensures, refl, p.1)
 
 pub run-requires-clause-bounds_within : goal.run-requires-clause-bounds_within
 run-requires-clause-bounds_within c =
@@ -24,5 +24,5 @@ pub returns : goal.returns
 returns c =
     let s = c.requires.sane in
     record {
-      ran = λ p. values-ran s.0 s.1 p c.committed_values-n.ensures c.objects_place-objects.ensures _ _ _ _ _ c.run.ensures.run c.run.ensures.count;
+      ran = λ p. values-ran s.0 s.1 p c.committed_values-n.ensures c.objects_place-objects.ensures _ _ _ c.run.ensures.run c.run.ensures.lent c.run.ensures.count;
     }

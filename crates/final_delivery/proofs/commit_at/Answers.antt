@@ -1,7 +1,7 @@
 -- Each step leaves what the next one asks.
 use Rattle.std.proofs.Common.{refl, arith}
 use Rattle.final_admission.specs.NextTimestamp.{timestamp-left}
-use Rattle.final_decision.specs.FoundAt.{found-laid, found_deciding, outcome-small, stored-few, operations-few}
+use Rattle.final_decision.specs.FoundAt.{found-laid, found_deciding, outcome-small, stored-lent, stored-few, operations-few}
 use Rattle.final_delivery.specs.Commit.{found-few, found_publishing, found_marking, found_paired, found-walking, found-done}
 use Rattle.final_delivery.proofs.commit_at.Goals as goal
 
@@ -13,18 +13,28 @@ committed_places-requires-clause-laid c =
 pub decide-d-requires-clause-deciding : goal.decide-d-requires-clause-deciding
 decide-d-requires-clause-deciding c =
     let s = c.requires.sane in
-    (found_deciding s.0 s.1 c.requires.found.0 c.committed_places.ensures, record { objects = refl; values = refl })
+    (found_deciding s.0 s.1 c.requires.found.0 c.committed_places.ensures, refl)
 
 pub next_timestamp-timestamp-requires : goal.next_timestamp-timestamp-requires
 next_timestamp-timestamp-requires c =
     let p = c.requires.found.0 in
     timestamp-left c.requires.sane.0 p.holds p.before
 
+pub slice_bounds-writes-end : goal.slice_bounds-writes-end
+slice_bounds-writes-end c =
+    let s = c.requires.sane in
+    (stored-lent s.0 s.1 c.requires.found.0 c.committed_places.ensures c.decide-d.ensures).0
+
+pub slice_bounds-publish-end : goal.slice_bounds-publish-end
+slice_bounds-publish-end c =
+    let s = c.requires.sane in
+    (stored-lent s.0 s.1 c.requires.found.0 c.committed_places.ensures c.decide-d.ensures).1
+
 pub publish-requires-clause-few : goal.publish-requires-clause-few
 publish-requires-clause-few c =
     let s = c.requires.sane in
     let p = c.requires.found in
-    (found-few s.0 s.1 p.0 p.1, stored-few s.0 s.1 p.0 c.committed_places.ensures c.decide-d.ensures)
+    found-few s.0 s.1 p.0 p.1
 
 pub publish-requires-clause-publishing : goal.publish-requires-clause-publishing
 publish-requires-clause-publishing c =

@@ -11,4 +11,4 @@ put-requires-2 c =
 
 pub returns : goal.returns
 returns c =
-    marked c.requires.sane (omega arith) (omega arith) c.put.ensures c.last_at.ensures.exact c.put-2.ensures
+    marked c.requires.sane (omega arith) (omega arith) (rw c.from.ensures at c.put.ensures) c.last_at.ensures.exact (rw c.from-2.ensures at c.put-2.ensures)

@@ -1,5 +1,5 @@
 -- The count read is that of the pending transactions; a row is what the laws of the walk say.
-use Rattle.std.proofs.Common.{arith}
+use Rattle.std.proofs.Common.{◌≡◌, arith}
 use Rattle.layout.proofs.Reading.{count-read}
 use Rattle.final_walk.specs.Walk.{walk-long, walk-few, walked_start, walked_all, walk-there, walk-lying, walk-reads, walk-writes, walked-stale, walked_next}
 use Rattle.final_walk.proofs.first_stale.Goals as goal
@@ -56,4 +56,8 @@ overflow_cast-result-2 c =
     omega (arith, k.within, k.count, walk-few c.requires.sane p)
 
 pub returns : goal.returns
-returns c = record { walked = λ p. walked_all c.requires.sane p (c.loop-i.invariant p) c.loop-i-test.false }
+returns c =
+    record {
+      walked = λ p. let all : c.loop-i.i ≡ c.get-count.result = omega arith in
+          rw (← all) (walked_all c.requires.sane p (c.loop-i.invariant p) c.loop-i-test.false);
+    }

@@ -3,7 +3,7 @@ use Rattle.std.proofs.Common.{◌≡◌, ℕ, suc, ◌+◌, ◌*◌, ◌<◌, �
 use Rattle.cells.specs.Cells.{cells}
 use Rattle.layout.specs.Offsets.{reads_at, entries_at, entry_at}
 use Rattle.final_walk.specs.Places.{Reaching}
-use Rattle.final_walk.specs.Recorded.{entry_from, writes_from, Lying, Laying, laying_start, laying_next, laying_end, write-there}
+use Rattle.final_walk.specs.Recorded.{entry_from, writes_from, Lying, Laying, laying_start, laying_next, write-there}
 use Rattle.final_walk.proofs.lay_writes.Goals as goal
 
 pub loop-i-init : goal.loop-i-init
@@ -42,6 +42,3 @@ loop-i-preserved c =
     let before = subst (Laying b s.at s.places.now k.places) down k.invariant in
     subst (λ (o : ℕ). Laying b s.at s.places.now (set k.places o (s.at + 9 + (c.get-reads.result + i) * 2 + 1)) i) (sym object)
     (laying_next c.requires.lying c.requires.reaching low before cell)
-
-pub returns : goal.returns
-returns c = laying_end c.requires.lying c.requires.reaching (omega arith) c.loop-i.invariant

@@ -41,4 +41,4 @@ returns-then-get_signed-read c =
 
 pub returns : goal.returns
 returns c =
-    sym (reads_all c.requires.lying c.requires.reaching (λ x h. c.loop-i.invariant.passed x (omega (arith, c.get-count.ensures))))
+    sym (reads_all c.requires.lying c.requires.reaching (λ x h. c.loop-i.invariant x (omega (arith, c.get-count.ensures))))

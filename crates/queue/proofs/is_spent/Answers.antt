@@ -1,5 +1,5 @@
 -- The client's last number is a cell of the record area.
-use Rattle.std.proofs.Common.{ap, arith, leb}
+use Rattle.std.proofs.Common.{ap₂, arith, leb}
 use Rattle.model.specs.Calls.{clients}
 use Rattle.layout.proofs.HoldsLaws.{holds-long}
 use Rattle.layout.proofs.Reading.{last-read}
@@ -14,5 +14,5 @@ get-requires c =
 pub returns : goal.returns
 returns c =
     record {
-      test = λ u h. ap (leb c.args.sequence) (last-read c.args.l c.requires.sane.0 c.args.records.now u h c.last_at.result c.get.result c.get.ensures c.args.client c.requires.sane.1 c.last_at.ensures.exact);
+      test = λ u h. ap₂ leb c.from.ensures (last-read c.args.l c.requires.sane.0 c.args.records.now u h c.last_at.result c.get.result c.get.ensures c.args.client c.requires.sane.1 c.last_at.ensures.exact);
     }

@@ -1,13 +1,16 @@
 -- The count is a cell of the record area, and the search runs over the part from the first row on.
-use Rattle.std.proofs.Common.{◌≡◌, refl, ℕ, ◌*◌, ◌-◌, ◌∙◌, ap, arith, length}
+use Rattle.std.proofs.Common.{◌≡◌, refl, ℕ, ◌*◌, ◌-◌, ◌∙◌, sym, ap, arith, eqb, length, take, drop}
+use Rattle.cells.specs.Cells.{cells}
 use Rattle.model.specs.Lists.{index}
 use Rattle.model.specs.Replica.{Replica, has_key}
 use Rattle.layout.specs.Holds.{Holds}
+use Rattle.layout.specs.RowKeys.{keys}
 use Rattle.layout.proofs.HoldsLaws.{holds-long}
 use Rattle.layout.proofs.PrintableLaws.{few_pending}
 use Rattle.layout.proofs.Reading.{count-read}
-use Rattle.queue.proofs.PlaceLaws.{index-most, rows-room, position-of}
+use Rattle.queue.proofs.PlaceLaws.{rows-room, position-of}
 use Rattle.queue.proofs.locate.Goals as goal
+use Rattle.queue.proofs.locate.Goals.{After-key_index}
 
 pub get-count-requires : goal.get-count-requires
 get-count-requires c =
@@ -24,8 +27,8 @@ slice_bounds-key_index-start c =
     let H = c.requires.holding in
     omega (arith, holds-long c.args.l c.requires.sane c.args.records.now H.replica H.holds)
 
-pub key_index-i-requires : goal.key_index-i-requires
-key_index-i-requires c =
+pub key_index-requires : goal.key_index-requires
+key_index-requires c =
     let H = c.requires.holding in
     let s = c.args in
     let at = c.row_at-at.result * 8 in
@@ -34,24 +37,34 @@ key_index-i-requires c =
     (count-read s.l c.requires.sane s.records.now H.replica H.holds c.pending_at.result c.get-count.result c.get-count.ensures c.pending_at.ensures.exact)
 
 -- the count, of whichever replica the area holds
-the-count : (c : goal.After-key_index-i) (u : Replica) → Holds c.args.l c.args.records.now u → c.get-count.result ≡ length u.pending
+the-count : (c : After-key_index) (u : Replica) → Holds c.args.l c.args.records.now u → c.get-count.result ≡ length u.pending
 the-count c u h =
     count-read c.args.l c.requires.sane c.args.records.now u h c.pending_at.result c.get-count.result c.get-count.ensures c.pending_at.ensures.exact
 
--- where the search ended, of whichever replica the area holds
-the-position : (c : goal.After-key_index-i) (u : Replica) → Holds c.args.l c.args.records.now u → c.key_index-i.result ≡ index (has_key c.args.client c.args.sequence) u.pending
-the-position c u h =
+-- what the search answers, of whichever replica the area holds
+searched : (c : After-key_index) (u : Replica) → Holds c.args.l c.args.records.now u
+    → (let b = c.args.records.now in let at = c.row_at-at.result * 8 in index (eqb c.key_cell-key.result) (keys c.row_width.result c.get-count.result (cells (take (length b - at) (drop at b)))))
+    ≡ index (has_key c.args.client c.args.sequence) u.pending
+searched c u h =
     let s = c.args in
     let at = c.row_at-at.result * 8 in
-    c.key_index-i.ensures ∙ position-of s.l c.requires.sane s.records.now u h at (length s.records.now - at) c.row_width.result c.get-count.result
+    position-of s.l c.requires.sane s.records.now u h at (length s.records.now - at) c.row_width.result c.get-count.result
     (ap (λ (i : ℕ). i * 8) c.row_at-at.ensures.exact) refl c.row_width.ensures (the-count c u h)
     s.client s.sequence c.key_cell-key.result (omega arith) c.key_cell-key.ensures
 
+-- the position is below the limit, so that it fits
 pub overflow_cast-result : goal.overflow_cast-result
 overflow_cast-result c =
     let s = c.args in
     let H = c.requires.holding in
-    omega (arith, the-position c H.replica H.holds, index-most (has_key s.client s.sequence) H.replica.pending, few_pending s.l H.replica H.holds.fits, c.requires.sane.pending)
+    omega (arith, c.in_ok-i.ensures.0, the-count (goal.at.overflow_cast-result c).After-key_index H.replica H.holds, few_pending s.l H.replica H.holds.fits, c.requires.sane.pending)
+
+pub returns-in_err-i : goal.returns-in_err-i
+returns-in_err-i c =
+    let k = (goal.at.returns-in_err-i c).After-key_index in
+    rw c.from_residual.ensures (record { stands = λ u h. sym (searched k u h) ∙ c.in_err-i.ensures ∙ the-count k u h })
 
 pub returns : goal.returns
-returns c = record { position = the-position c; count = the-count c }
+returns c =
+    let k = (goal.at.returns c).After-key_index in
+    record { stands = λ u h. (c.in_ok-i.ensures.1 ∙ searched k u h, omega (arith, c.in_ok-i.ensures.0, the-count k u h)) }

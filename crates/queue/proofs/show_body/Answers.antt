@@ -17,7 +17,7 @@ body_at-at-requires-clause-i_le_pending c =
     let a : Areas = (s.records.now, s.bodies.now) in
     let f = c.requires.bodies_value in
     let h = fit-bodies s.l c.requires.supported.sane a (λ i. (c.type_inv.records i).fits) f in
-    let low = shown-low s.l c.requires.supported.sane s.records.now s.bodies s.bodies s.client s.sequence f h c.in-Found.position.0 c.in-Found.length _ (sym c.in-Found.ensures.answers) refl in
+    let low = shown-low s.l c.requires.supported.sane s.records.now s.bodies s.bodies s.client s.sequence f h c.in-Ok.found.position.0 c.in-Ok.found.length _ (sym c.in-Ok.ensures.answers) refl in
     omega arith
 
 pub slice_bounds-result-end-2 : goal.slice_bounds-result-end-2
@@ -26,8 +26,8 @@ slice_bounds-result-end-2 c =
     let a : Areas = (s.records.now, s.bodies.now) in
     let f = c.requires.bodies_value in
     let h = fit-bodies s.l c.requires.supported.sane a (λ i. (c.type_inv.records i).fits) f in
-    shown-room s.l c.requires.supported.sane s.records.now s.bodies s.bodies s.client s.sequence f h c.in-Found.position.0 c.in-Found.length c.body_at-at.result
-    (sym c.in-Found.ensures.answers) c.body_at-at.ensures.exact
+    shown-room s.l c.requires.supported.sane s.records.now s.bodies s.bodies s.client s.sequence f h c.in-Ok.found.position.0 c.in-Ok.found.length c.body_at-at.result
+    (sym c.in-Ok.ensures.answers) c.body_at-at.ensures.exact
 
 pub returns : goal.returns
 returns c =
@@ -35,5 +35,5 @@ returns c =
     let a : Areas = (s.records.now, s.bodies.now) in
     let f = c.requires.bodies_value in
     let h = fit-bodies s.l c.requires.supported.sane a (λ i. (c.type_inv.records i).fits) f in
-    shown-some s.l c.requires.supported.sane s.records.now s.bodies _ s.client s.sequence f h c.in-Found.position.0 c.in-Found.length c.body_at-at.result
-    (sym c.in-Found.ensures.answers) c.body_at-at.ensures.exact refl refl
+    shown-some s.l c.requires.supported.sane s.records.now s.bodies _ s.client s.sequence f h c.in-Ok.found.position.0 c.in-Ok.found.length c.body_at-at.result
+    (sym c.in-Ok.ensures.answers) c.body_at-at.ensures.exact refl refl

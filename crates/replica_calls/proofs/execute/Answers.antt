@@ -1,10 +1,13 @@
 -- `replica_calls::execute` meets its contract: where the areas have the shape, `speculative_execution::execute`.
 use Rattle.std.proofs.Common.{sym, ◌∙◌}
+use Rattle.std.proofs.lemmas.Result.{err_from_is_err_and}
 use Rattle.model.specs.Calls.{execute}
 use Rattle.layout.proofs.ContractLaws.{met-unfit}
 use Rattle.replica_calls.proofs.execute.Goals as goal
 
-pub returns-else-shaped : goal.returns-else-shaped
-returns-else-shaped c =
+pub returns-in_err-require_shape : goal.returns-in_err-require_shape
+returns-in_err-require_shape c =
     let a = c.args in
-    met-unfit a.l (execute a.count) (a.records.now, a.bodies.now) (sym c.requires.shaped_value ∙ c.if-shaped.false)
+    let e = c.in_err-require_shape.ensures in
+    let p = err_from_is_err_and c.from_residual.result c.from_residual.ensures.1 in
+    rw (p.1, p.2, e.0) (met-unfit a.l (execute a.count) (a.records.now, a.bodies.now) (sym c.requires.shaped_value ∙ e.1))

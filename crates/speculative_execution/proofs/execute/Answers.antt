@@ -1,12 +1,12 @@
 -- Refused above 4,096; else the answer is what the pass over the pending transactions comes to.
-use Rattle.std.proofs.Common.{refl, sym, ap, ◌≤◌, get_or, Fits, w8, arith, rules}
+use Rattle.std.proofs.Common.{refl, sym, ap, ◌≤◌, get_or, Fits, w8, rules}
 use Rattle.cells.specs.Cells.{Below}
 use Rattle.model.specs.Calls.{Answer, most_work}
 use Rattle.layout.specs.Layout.{Areas}
 use Rattle.layout.proofs.ContractLaws.{met_by}
-use Rattle.speculative_execution.specs.Answer.{Asked, too_many, readable, sorted_blocks, begun, small-counts, answered}
+use Rattle.speculative_execution.specs.Answer.{Asked, too_many, readable, sorted_blocks, begun, answered}
 use Rattle.speculative_execution.proofs.execute.Goals as goal
-use Rattle.speculative_execution.proofs.execute.Goals.{Else-count-gt-MOST_WORK, After-execute_pending-t}
+use Rattle.speculative_execution.proofs.execute.Goals.{Else-count-gt-MOST_WORK}
 
 -- ---- what is known of a count that is not refused, and after the turns
 
@@ -34,25 +34,12 @@ committed_values-n-requires c =
     let p = (goal.at.committed_values-n-requires c).Else-count-gt-MOST_WORK in
     (c.requires.supported.sane, readable (asked p) (bytes p), sorted_blocks (asked p) (bytes p), refl)
 
-pub execute_pending-t-requires : goal.execute_pending-t-requires
-execute_pending-t-requires c =
-    let p = (goal.at.execute_pending-t-requires c).Else-count-gt-MOST_WORK in
+pub execute_pending-requires : goal.execute_pending-requires
+execute_pending-requires c =
+    let p = (goal.at.execute_pending-requires c).Else-count-gt-MOST_WORK in
     begun (asked p) (bytes p) c.committed_values-n.ensures c.args.count (low p)
-
-pub overflow_cast-result : goal.overflow_cast-result
-unfolding most_work
-overflow_cast-result c =
-    let p = (goal.at.overflow_cast-result c).Else-count-gt-MOST_WORK in
-    let k = small-counts (asked p) (bytes p) c.args.count (low p) c.execute_pending-t.ensures in
-    omega (arith, k.0)
-
-pub overflow_cast-result-2 : goal.overflow_cast-result-2
-overflow_cast-result-2 c =
-    let p = (goal.at.overflow_cast-result-2 c).Else-count-gt-MOST_WORK in
-    let k = small-counts (asked p) (bytes p) c.args.count (low p) c.execute_pending-t.ensures in
-    omega (arith, k.1)
 
 pub returns : goal.returns
 returns c =
     let p = (goal.at.returns c).Else-count-gt-MOST_WORK in
-    met_by (answered (asked p) (bytes p) c.args.count (low p) c.execute_pending-t.ensures)
+    met_by (answered (asked p) (bytes p) c.args.count (low p) c.execute_pending.ensures)

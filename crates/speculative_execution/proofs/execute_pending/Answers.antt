@@ -3,9 +3,10 @@ use Rattle.std.proofs.Common.{◌≡◌, ap, ◌∙◌, subst, ℕ, ◌+◌, ◌
 use Rattle.std.proofs.lemmas.Bool.{not-true, not-false}
 use Rattle.cells.specs.Cells.{cells, Below}
 use Rattle.operation.specs.Body.{body_length}
+use Rattle.model.specs.Calls.{most_work}
 use Rattle.layout.specs.Layout.{Areas, parse}
 use Rattle.layout.specs.Offsets.{record_length, body_at}
-use Rattle.layout.proofs.FitLaws.{fit-says, lengths-say}
+use Rattle.layout.proofs.FitLaws.{fit-says, fit-shape, lengths-say}
 use Rattle.speculative_execution.specs.Passing.{Worked}
 use Rattle.speculative_execution.specs.LentAreas.{pending-there, low-place, body-inside, begun_first, begun-last, lent-ready, lent-most, lent-next, lent-last}
 use Rattle.speculative_execution.proofs.execute_pending.Goals as goal
@@ -84,6 +85,20 @@ overflow_sub-left c =
     let t = (goal.at.overflow_sub-left c).In-loop-i in
     lent-most c.requires (bytes (outside t)) c.loop-i.invariant (turn t) c.row_at-row.ensures.exact c.row_at-next.ensures.exact c.body_at-at.ensures.exact
     (body_bytes (goal.at.overflow_sub-left c).After-body_length) c.objects_place-objects.ensures c.advance-a.ensures
+
+-- both counts fit in 32 bits
+pub overflow_cast-result : goal.overflow_cast-result
+unfolding most_work
+overflow_cast-result c = omega (arith, c.requires.allowed)
+
+pub overflow_cast-operations : goal.overflow_cast-operations
+unfolding most_work
+overflow_cast-operations c = omega (arith, c.requires.allowed)
+
+pub overflow_cast-result-2 : goal.overflow_cast-result-2
+overflow_cast-result-2 c =
+    let a = c.args in
+    omega (arith, total (goal.at.overflow_cast-result-2 c).After-objects_place-objects, (fit-shape a.l (a.records.now, a.bodies.now) c.requires.fit).few_pending, c.requires.sane.pending)
 
 pub returns-then-not-a : goal.returns-then-not-a
 returns-then-not-a c =
