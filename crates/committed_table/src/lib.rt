@@ -10,7 +10,8 @@ use execution::ObjectsAt;
 use model::Limits;
 
 // The committed state: of each object the value that a reader opened now would see, by the lookup that readers use; the objects passed have theirs.
-// The number of objects. Their stamps are not gathered: they stand in the record area, which is lent beside the values.
+// How many of the array's places they take: it is of the largest size, since there is no heap. Their stamps are not gathered: they stand in the record
+// area, which is lent beside the values.
 pub fn committed_values(records: &[u8], l: Limits, table: &mut [i64; 128]) -> usize
     requires { Sane l × Laid l records.now × BlocksSorted l records.now × (length table.old ≡ 128) }
     ensures { Committed l records.now result table.new }
@@ -18,15 +19,10 @@ pub fn committed_values(records: &[u8], l: Limits, table: &mut [i64; 128]) -> us
     let n = cells::get(records, layout::size_at(l)) as usize;
     let timestamp = cells::get(records, layout::TIMESTAMP);
     let block = layout::bounds_at(l) * 8;
-    let width = layout::object_width(l) * 8;
-    let mut first = layout::object_at(l, 0) * 8;
-    let mut i = 0;
-    while i < n {
+    for i in 0..n {
+        let first = layout::object_at(l, i) * 8;
         let end = first + block;
-        let value = versions::lookup(&records[first..end], timestamp).value;
-        table[i] = value;
-        first += width;
-        i += 1;
+        table[i] = versions::lookup(&records[first..end], timestamp).value;
     }
     n
 }

@@ -185,7 +185,7 @@ module _ {l : Limits} {b c : List ℕ} {u : Replica} {cl sq n k i : ℕ} (r : Cl
         done = ap (λ (x : List Pending). take k r.queue ++ keep (stays cl sq) x) (far n (omega arith) ∙ sym (far i h)) ∙ r.done;
       }
 
-  module _ (low : i < n) where
+  module _ (low : i ≤ n) where
     abbrev pub closing_queued : Queued l b n i
     closing_queued = record { replica = with_pending r.queue u; holds = r.holds; count = sym r.count; within = omega arith }
 

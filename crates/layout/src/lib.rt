@@ -2,7 +2,7 @@
 // Offsets into the record area are in cells of 8 bytes, offsets into the body area and both lengths in bytes.
 #![tactic(auto)]
 
-ghost use Rattle.std.specs.Prelude.{◌≡◌, ◌*◌, ◌≤◌, ◌<◌, eqb, length};
+ghost use Rattle.std.specs.Prelude.{◌≡◌, ◌*◌, ◌≤◌, ◌<◌, eqb, length, MatchOption};
 ghost use Rattle.cells.specs.Cells.{cells};
 ghost use Rattle.model.specs.Lists.{index};
 ghost use Rattle.model.specs.Calls.{clients};
@@ -46,24 +46,21 @@ pub const SEQUENCES: u64 = 0x1_0000_0000;
 pub fn key_cell(client: u32, sequence: u32) -> u64
     ensures { result ≡ of_key (client, sequence) }
 {
-    client as u64 * SEQUENCES + sequence as u64
+    u64::from(client) * SEQUENCES + u64::from(sequence)
 }
 
-// The index of the first of count blocks, of width cells each, that begins with key; count where there is none.
-pub fn key_index(blocks: &[u8], width: usize, count: usize, key: u64) -> usize
+// The index of the first of count blocks, of width cells each, that begins with key.
+pub fn key_index(blocks: &[u8], width: usize, count: usize, key: u64) -> Option<usize>
     requires { (0 < width) × (count * width * 8 ≤ length blocks.now) }
-    ensures { result ≡ index (eqb key) (keys width count (cells blocks.now)) }
+    ensures { MatchOption result (index (eqb key) (keys width count (cells blocks.now)) ≡ count)
+        (λ i. (i < count) × (i ≡ index (eqb key) (keys width count (cells blocks.now)))) }
 {
-    let mut i = 0;
-    let mut at = 0;
-    while i < count {
-        if cells::get(blocks, at) == key {
-            return i;
+    for i in 0..count {
+        if cells::get(blocks, i * width) == key {
+            return Some(i);
         }
-        i += 1;
-        at += width;
     }
-    i
+    None
 }
 
 // Where a client's last number lies; with client the number of clients, where the readers begin.

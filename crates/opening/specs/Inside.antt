@@ -12,6 +12,10 @@ use Rattle.model.specs.Lists.{all₂}
 use Rattle.model.specs.Calls.{bounds_from, starts_inside}
 use Rattle.model.proofs.Refusals.{widest-inside}
 
+-- a lower and an upper bound for each value
+abbrev pub BoundsEach : List ℤ → List ℤ → List ℤ → Type 0
+BoundsEach vs los his = (length los ≡ length vs) × (length his ≡ length vs)
+
 -- ---- one value
 
 -- as the code compares: not below the lower bound, and the upper one not below it

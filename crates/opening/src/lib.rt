@@ -1,4 +1,5 @@
 // Opening: both lent areas are filled, whatever is in them, with the replica of the start values, their bounds and the start timestamp.
+// Values, lower and upper bounds are three slices, as the C interface gives them, so that nothing is copied.
 #![tactic(auto)]
 
 ghost use Rattle.std.specs.Prelude.{◌≡◌, true, not, length};
@@ -7,6 +8,7 @@ ghost use Rattle.model.specs.Calls.{by_values, miscounted, bounds_from, starts_i
 ghost use Rattle.model.specs.Start.{start_of};
 ghost use Rattle.model.specs.Replica.{opened};
 ghost use Rattle.layout.specs.Layout.{print};
+ghost use Rattle.opening.specs.Inside.{BoundsEach};
 ghost use Rattle.opening.specs.Opening.{Lent, Blank, Started};
 
 use model::Limits;
@@ -15,19 +17,7 @@ use model::Limits;
 pub fn counts_ok(l: Limits, n: usize, values: &[i64], lower: &[i64], upper: &[i64]) -> bool
     ensures { result ≡ not (miscounted l n values.now lower.now upper.now) }
 {
-    if n == 0 {
-        return false;
-    }
-    if l.objects < n {
-        return false;
-    }
-    if values.len() != n {
-        return false;
-    }
-    if lower.len() != n {
-        return false;
-    }
-    upper.len() == n
+    0 < n && n <= l.objects && values.len() == n && lower.len() == n && upper.len() == n
 }
 
 // What is missing to the widest bounds. Where it is 0, the value is inside them, whatever it is: it is not looked at.
@@ -42,46 +32,38 @@ fn short_of_widest(value: i64, lower: i64, upper: i64) -> u64
 // Are all bounds the widest, as those of a replica that is opened without any? Where it is true, every start value lies inside; else nothing is said.
 // An OR over all, with no early exit, so that LLVM makes vectors of it: it takes half the time of the tests one by one.
 fn all_widest(values: &[i64], lower: &[i64], upper: &[i64]) -> bool
-    requires { (length lower.now ≡ length values.now) × (length upper.now ≡ length values.now) }
+    requires { BoundsEach values.now lower.now upper.now }
     ensures { result ≡ true → all₂ starts_inside (bounds_from lower.now upper.now) values.now ≡ true }
 {
     let mut missing: u64 = 0;
-    let mut i = 0;
-    while i < values.len() {
-        missing = missing | short_of_widest(values[i], lower[i], upper[i]);
-        i += 1;
+    for i in 0..values.len() {
+        missing |= short_of_widest(values[i], lower[i], upper[i]);
     }
     missing == 0
 }
 
 // Does every start value lie inside its bounds? Then no lower bound is above its upper one either. Value by value, up to the first that does not.
 fn each_inside(values: &[i64], lower: &[i64], upper: &[i64]) -> bool
-    requires { (length lower.now ≡ length values.now) × (length upper.now ≡ length values.now) }
+    requires { BoundsEach values.now lower.now upper.now }
     ensures { result ≡ all₂ starts_inside (bounds_from lower.now upper.now) values.now }
 {
-    let mut i = 0;
-    while i < values.len() {
+    for i in 0..values.len() {
         let v = values[i];
-        if v < lower[i] {
+        let lo = lower[i];
+        let hi = upper[i];
+        if v < lo || hi < v {
             return false;
         }
-        if upper[i] < v {
-            return false;
-        }
-        i += 1;
     }
     true
 }
 
 // The same, and quickly where the bounds are the widest: nothing is outside them.
 pub fn starts_inside(values: &[i64], lower: &[i64], upper: &[i64]) -> bool
-    requires { (length lower.now ≡ length values.now) × (length upper.now ≡ length values.now) }
+    requires { BoundsEach values.now lower.now upper.now }
     ensures { result ≡ all₂ starts_inside (bounds_from lower.now upper.now) values.now }
 {
-    if all_widest(values, lower, upper) {
-        return true;
-    }
-    each_inside(values, lower, upper)
+    all_widest(values, lower, upper) || each_inside(values, lower, upper)
 }
 
 // Writes each object's one version and its bounds; the objects are zeros.
@@ -97,17 +79,14 @@ fn put_objects(
     ensures { Started readers timestamp values.now lower.now upper.now objects.new }
 {
     let width = versions::width(readers);
-    let mut at = 0;
-    let mut i = 0;
-    while i < values.len() {
+    for i in 0..values.len() {
+        let at = i * (width + 2);
         cells::put(objects, at, 1);
         cells::put(objects, at + layout::NEWEST_STAMP, timestamp);
         cells::put_signed(objects, at + layout::NEWEST_VALUE, values[i]);
         let bounds = at + width;
         cells::put_signed(objects, bounds, lower[i]);
         cells::put_signed(objects, bounds + 1, upper[i]);
-        at = bounds + 2;
-        i += 1;
     }
 }
 
@@ -129,7 +108,7 @@ pub fn fill(
     cells::fill_zero(bodies, 0, bodies_end);
     let records_end = records.len();
     cells::fill_zero(records, 0, records_end);
-    let t = timestamp as u64;
+    let t = u64::from(timestamp);
     let n = values.len();
     let first = layout::object_at(l, 0) * 8;
     let end = layout::object_at(l, n) * 8;

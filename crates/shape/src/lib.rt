@@ -13,41 +13,24 @@ ghost use Rattle.shape.specs.LentRows.{Rows};
 ghost use Rattle.shape_objects.specs.LentRecord.{Record};
 
 use model::Limits;
+use shape_row::Beside;
 
 // May a row stand where it does? All before it are finished, or it is at its start.
 fn order_ok(finished: bool, counter: u64) -> bool
     ensures { result ≡ (finished || eqb counter 0) }
 {
-    if finished { true } else { counter == 0 }
+    finished || counter == 0
 }
 
 // The first row: itself, and its place in the order, where finished says whether all before it are.
-fn next_ok(
-    rows: &[u8],
-    place: &[u8],
-    lasts: &[u8],
-    objects: &[u8],
-    readers: usize,
-    most: usize,
-    n: usize,
-    finished: bool,
-) -> bool
-    requires { Rows most n readers 1 rows.now lasts.now objects.now × (length place.now ≡ place_of most) }
-    ensures { result ≡ placed_in most n readers (cells objects.now) (cells lasts.now) finished
-        (cells rows.now) place.now }
+fn next_ok(rows: &[u8], place: &[u8], b: Beside, finished: bool) -> bool
+    requires { Rows b.most b.n b.readers 1 rows.now b.lasts.now b.objects.now × (length place.now ≡ place_of b.most) }
+    ensures { result ≡ placed_in b.entry.most b.entry.n b.entry.readers (cells b.entry.objects.now) (cells b.entry.lasts.now)
+        finished (cells rows.now) place.now }
 {
-    let end = shape_row::row_cells(most) * 8;
-    if shape_row::row_ok(&rows[..end], place, lasts, objects, readers, most, n) {
-        return order_ok(finished, cells::get(rows, layout::ROW_COUNTER));
-    }
-    false
-}
-
-// Are both true?
-fn both(a: bool, b: bool) -> bool
-    ensures { result ≡ (a && b) }
-{
-    if a { b } else { false }
+    let end = shape_row::row_cells(b.most) * 8;
+    shape_row::row_ok(&rows[..end], place, b)
+        && order_ok(finished, cells::get(rows, layout::ROW_COUNTER))
 }
 
 // Is the transaction of the first row finished: stopped with an outcome, or past its last operation?
@@ -60,63 +43,38 @@ fn is_finished(rows: &[u8], place: &[u8]) -> bool
     execution::is_finished(place, counter, outcome)
 }
 
-// The first count rows, each with the place of its body, but for their keys: row by row, up to the first that fails. A turn takes the row from byte
-// at on and the place from byte from on; finished says whether all rows before are.
-fn each_ok(
-    rows: &[u8],
-    places: &[u8],
-    lasts: &[u8],
-    objects: &[u8],
-    readers: usize,
-    most: usize,
-    n: usize,
-    count: usize,
-) -> bool
-    requires { Rows most n readers count rows.now lasts.now objects.now × (count * place_of most ≤ length places.now) }
-    ensures { result ≡ keyless_in most n readers (cells objects.now) (cells lasts.now) true count
-        (cells rows.now) places.now }
+// The first count rows, each with the place of its body, but for their keys: row by row, up to the first that fails; finished says whether all rows
+// before are.
+fn each_ok(rows: &[u8], places: &[u8], b: Beside, count: usize) -> bool
+    requires { Rows b.most b.n b.readers count rows.now b.lasts.now b.objects.now × (count * place_of b.most ≤ length places.now) }
+    ensures { result ≡ keyless_in b.entry.most b.entry.n b.entry.readers (cells b.entry.objects.now) (cells b.entry.lasts.now)
+        true count (cells rows.now) places.now }
 {
-    let width = shape_row::row_cells(most) * 8;
-    let size = operation::body_length(most);
-    let mut at = 0;
-    let mut from = 0;
-    let mut left = count;
+    let width = shape_row::row_cells(b.most) * 8;
+    let size = operation::body_length(b.most);
     let mut finished = true;
-    while 0 < left {
+    for i in 0..count {
+        let at = i * width;
+        let from = i * size;
         let to = from + size;
-        left -= 1;
         let row = &rows[at..];
         let place = &places[from..to];
-        if next_ok(row, place, lasts, objects, readers, most, n, finished) {
-            finished = both(finished, is_finished(row, place));
-            at += width;
-            from = to;
-        } else {
+        if !next_ok(row, place, b, finished) {
             return false;
         }
+        finished &= is_finished(row, place);
     }
     true
 }
 
 // The first count rows, each with the place of its body, and their keys, which are different: a loop of their own, over one cell a row.
-fn rows_ok(
-    rows: &[u8],
-    places: &[u8],
-    lasts: &[u8],
-    objects: &[u8],
-    readers: usize,
-    most: usize,
-    n: usize,
-    count: usize,
-) -> bool
-    requires { Rows most n readers count rows.now lasts.now objects.now × (count * place_of most ≤ length places.now) }
-    ensures { result ≡ rows_in most n readers (cells objects.now) (cells lasts.now) true count
-        (cells rows.now) places.now }
+fn rows_ok(rows: &[u8], places: &[u8], b: Beside, count: usize) -> bool
+    requires { Rows b.most b.n b.readers count rows.now b.lasts.now b.objects.now × (count * place_of b.most ≤ length places.now) }
+    ensures { result ≡ rows_in b.entry.most b.entry.n b.entry.readers (cells b.entry.objects.now) (cells b.entry.lasts.now)
+        true count (cells rows.now) places.now }
 {
-    if each_ok(rows, places, lasts, objects, readers, most, n, count) {
-        return shape_keys::distinct(rows, shape_row::row_cells(most), count);
-    }
-    false
+    each_ok(rows, places, b, count)
+        && shape_keys::distinct(rows, shape_row::row_cells(b.most), count)
 }
 
 // The rows in use, count of them, where they lie in the areas, beside the last numbers and the objects, whose number was found within its limit.
@@ -131,16 +89,14 @@ fn used_ok(records: &[u8], bodies: &[u8], l: Limits, count: usize) -> bool
     let objects = layout::object_at(l, 0) * 8;
     let end = layout::object_at(l, n) * 8;
     let first = layout::row_at(l, 0) * 8;
-    rows_ok(
-        &records[first..],
-        bodies,
-        &records[lasts..readers],
-        &records[objects..end],
-        l.readers,
-        l.operations,
+    let b = Beside {
+        lasts: &records[lasts..readers],
+        objects: &records[objects..end],
+        readers: l.readers,
+        most: l.operations,
         n,
-        count,
-    )
+    };
+    rows_ok(&records[first..], bodies, b, count)
 }
 
 // The number of pending transactions, their rows and bodies, and zeros where there might be more of both.
@@ -155,12 +111,9 @@ fn pending_ok(records: &[u8], bodies: &[u8], l: Limits) -> bool
     let end = layout::row_at(l, count) * 8;
     let tail = layout::row_at(l, l.pending) * 8;
     let last = layout::body_at(l, count);
-    if used_ok(records, bodies, l, count) {
-        if zero_scan::all_zero(records, end, tail) {
-            return zero_scan::all_zero(bodies, last, bodies.len());
-        }
-    }
-    false
+    used_ok(records, bodies, l, count)
+        && zero_scan::all_zero(records, end, tail)
+        && zero_scan::all_zero(bodies, last, bodies.len())
 }
 
 // The shape check. Areas of wrong lengths fail it; on others the header first, since the objects are judged beside its timestamp and readers, and the
@@ -175,10 +128,7 @@ pub fn check(records: &[u8], bodies: &[u8], l: Limits) -> bool
     if bodies.len() != layout::bodies_length(l) {
         return false;
     }
-    if shape_objects::header_ok(records, l) {
-        if shape_objects::objects_ok(records, l) {
-            return pending_ok(records, bodies, l);
-        }
-    }
-    false
+    shape_objects::header_ok(records, l)
+        && shape_objects::objects_ok(records, l)
+        && pending_ok(records, bodies, l)
 }

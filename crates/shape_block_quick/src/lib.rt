@@ -10,36 +10,34 @@ ghost use Rattle.cells.specs.Cells.{cells};
 ghost use Rattle.versions.specs.Block.{width, block_ok};
 ghost use Rattle.shape_block_quick.specs.Quick.{Sound};
 
+use shape_readers::{Sorted, down};
+
 // The test where there are count versions, two or more. Version k is held where the reader found by going down from the last one's is above its
 // stamp; the oldest is held by the earliest reader, whose cell is low, or by none. Called with a literal count, the loop becomes straight code.
 pub fn quick(
     block: &[u8],
-    d: &[u64; 17],
-    q: usize,
+    d: &Sorted,
     readers: usize,
     timestamp: u64,
     low: u64,
     count: usize,
 ) -> bool
     requires size { length block.now ≡ width readers * 8 }
-    requires sorted { (q ≤ 16) × (get_or d.now 0 0 ≡ 0) }
     requires versions { (get_or (cells block.now) 0 0 ≡ count) × (2 ≤ count) × (count ≤ readers + 1) }
-    ensures { Sound readers timestamp low d.now block.now result }
+    ensures { Sound readers timestamp low d.now.places block.now result }
 {
     let newest = cells::get(block, 1);
     let mut upper = newest;
-    let mut i = q;
-    let mut k = 1;
-    while k + 1 < count {
+    let mut i = d.last;
+    for k in 1..count - 1 {
         let s = cells::get(block, 1 + 2 * k);
-        i = shape_readers::down(d, i, upper);
-        if d[i] <= s {
+        i = down(d, i, upper);
+        if d.places[i] <= s {
             return false;
         }
         upper = s;
-        k += 1;
     }
-    (cells::get(block, 1 + 2 * k) < low)
+    (cells::get(block, 2 * count - 1) < low)
         & (low <= upper)
         & (newest <= timestamp)
         & cells::cells_zero(block, 1 + 2 * count, versions::width(readers))
@@ -68,10 +66,8 @@ pub fn full(
     ensures { Sound readers timestamp low d.now block.now result }
 {
     let mut held = true;
-    let mut k = 1;
-    while k < count {
-        held = held & sees(block, d[count - k], k);
-        k += 1;
+    for k in 1..count {
+        held &= sees(block, d[count - k], k);
     }
     let behind = 1 + 2 * count;
     held & (cells::get(block, 2 * count - 1) < low)

@@ -29,13 +29,11 @@ fn older_inside(block: &[u8], count: usize, lower: u64, upper: u64) -> bool
     if span == u64::MAX {
         return true;
     }
-    let mut i = 1;
-    while i < count {
+    for i in 1..count {
         let v = cells::get(block, 2 + 2 * i);
         if span < std::num::wrapping_sub_u64(v, lower) {
             return false;
         }
-        i += 1;
     }
     true
 }

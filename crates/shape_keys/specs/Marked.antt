@@ -12,9 +12,8 @@ use Rattle.shape_keys.specs.Keys.{mark, lone_in}
 use Rattle.shape_keys.specs.Early.{key_at, early, lone-early, absent-all}
 
 -- after i keys: no two of them are the same, and the mark of each is set
-pub record Marked (w count : ℕ) (cs : List ℕ) (marks : List Bool) (at i : ℕ) : Type 0 where
+pub record Marked (w count : ℕ) (cs : List ℕ) (marks : List Bool) (i : ℕ) : Type 0 where
   pub few : i ≤ count
-  pub place : at ≡ i * w
   pub room : length marks ≡ 256
   pub different : each (early w cs) i ≡ true
   pub each_set : (j : ℕ) → j < i → get_or marks (mark (key_at w cs j)) false ≡ true
@@ -22,16 +21,13 @@ pub record Marked (w count : ℕ) (cs : List ℕ) (marks : List Bool) (at i : �
 no : false ≡ true → ⊥
 no x = let y : ◌≡◌ {A = ℕ} 0 1 = cc in omega arith
 
-module _ (w count : ℕ) (cs : List ℕ) (wide : 0 < w) (marks : List Bool) (at i : ℕ) (r : Marked w count cs marks at i) where
+module _ (w count : ℕ) (cs : List ℕ) (wide : 0 < w) (marks : List Bool) (i : ℕ) (r : Marked w count cs marks i) where
   pub marked_end : count ≤ i → true ≡ lone_in w count cs
   marked_end h =
       let e : i ≡ count = omega (arith, r.few) in
       sym (lone-early w wide count cs ∙ ap (each (early w cs)) (sym e) ∙ r.different)
 
-  module _ (h : i < count) (key m : ℕ) (k : key ≡ get_or cs at 0) (e : m ≡ mark key) (small : m < 256) (p : Bool) (q : p ≡ cond (get_or marks m false) (absent key (chunks w i cs)) true) where
-    here : key ≡ key_at w cs i
-    here = k ∙ ap (λ (j : ℕ). get_or cs j 0) r.place
-
+  module _ (h : i < count) (key m : ℕ) (k : key ≡ key_at w cs i) (e : m ≡ mark key) (small : m < 256) (p : Bool) (q : p ≡ cond (get_or marks m false) (absent key (chunks w i cs)) true) where
     asked : cond (get_or marks m false) (absent key (chunks w i cs)) true ≡ absent key (chunks w i cs)
     asked = go (get_or marks m false) refl
       where
@@ -41,7 +37,7 @@ module _ (w count : ℕ) (cs : List ℕ) (wide : 0 < w) (marks : List Bool) (at 
             sym (absent-all w wide key i cs (λ j l z. no (sym s ∙ ap (λ (v : ℕ). get_or marks v false) (e ∙ ap mark (sym z)) ∙ r.each_set j l)))
 
     told : p ≡ early w cs i
-    told = q ∙ asked ∙ ap (λ (v : ℕ). absent v (chunks w i cs)) here
+    told = q ∙ asked ∙ ap (λ (v : ℕ). absent v (chunks w i cs)) k
 
     pub marked_no : p ≡ false → false ≡ lone_in w count cs
     marked_no f = sym (lone-early w wide count cs ∙ stops (early w cs) i count h (sym told ∙ f))
@@ -56,18 +52,17 @@ module _ (w count : ℕ) (cs : List ℕ) (wide : 0 < w) (marks : List Bool) (at 
 
     set-still : (j : ℕ) → j < i + 1 → get_or (set marks m true) (mark (key_at w cs j)) false ≡ true
     set-still j l =
-        ⊎_elim (λ z. ap (λ (u : ℕ). get_or (set marks m true) u false) (ap (λ (j : ℕ). mark (key_at w cs j)) z ∙ ap mark (sym here) ∙ sym e) ∙ get_or-set_same marks m true false (omega (arith, r.room)))
+        ⊎_elim (λ z. ap (λ (u : ℕ). get_or (set marks m true) u false) (ap (λ (j : ℕ). mark (key_at w cs j)) z ∙ ap mark (sym k) ∙ sym e) ∙ get_or-set_same marks m true false (omega (arith, r.room)))
         (λ z. still (mark (key_at w cs j)) (r.each_set j z))
         (eq-or-lt_of_le (below j l))
       where
         below : (j : ℕ) → j < i + 1 → j ≤ i
         below j l = omega arith
 
-    pub marked_on : p ≡ true → Marked w count cs (set marks m true) (at + w) (i + 1)
+    pub marked_on : p ≡ true → Marked w count cs (set marks m true) (i + 1)
     unfolding each
     marked_on f = record {
       few = omega arith;
-      place = omega (arith, r.place);
       room = length-set marks m true ∙ r.room;
       different = rw (add-one, r.different) (sym told ∙ f);
       each_set = set-still;

@@ -20,11 +20,7 @@ fn is_new(rows: &[u8], width: usize, count: usize, key: u64, seen: bool) -> bool
     requires { (0 < width) × (count * width * 8 ≤ length rows.now) }
     ensures { result ≡ cond seen (absent-in key (chunks width count (cells rows.now))) true }
 {
-    if seen {
-        shape_names::absent(rows, width, count, key)
-    } else {
-        true
-    }
+    !seen || shape_names::absent(rows, width, count, key)
 }
 
 // Do the first count blocks, of width cells each, begin with different keys? Each is new after those before it, up to the first that is not; the
@@ -34,18 +30,13 @@ pub fn distinct(rows: &[u8], width: usize, count: usize) -> bool
     ensures { result ≡ lone_in width count (cells rows.now) }
 {
     let mut marks = [false; 256];
-    let mut at = 0;
-    let mut i = 0;
-    while i < count {
-        let key = cells::get(rows, at);
+    for i in 0..count {
+        let key = cells::get(rows, i * width);
         let m = mark_of(key);
-        if is_new(rows, width, i, key, marks[m]) {
-            marks[m] = true;
-            at += width;
-            i += 1;
-        } else {
+        if !is_new(rows, width, i, key, marks[m]) {
             return false;
         }
+        marks[m] = true;
     }
     true
 }

@@ -63,7 +63,7 @@ absent-index w n key cs wide =
 -- ---- entries
 
 module _ (n left at : ℕ) (cs : List ℕ) where
-  names-next : 0 < left → names_in n left (drop at cs) ≡ ltb (get_or cs at 0) n && (absent (get_or cs at 0) (chunks 2 (left - 1) (drop (at + 2) cs)) && names_in n (left - 1) (drop (at + 2) cs))
+  pub names-next : 0 < left → names_in n left (drop at cs) ≡ ltb (get_or cs at 0) n && (absent (get_or cs at 0) (chunks 2 (left - 1) (drop (at + 2) cs)) && names_in n (left - 1) (drop (at + 2) cs))
   unfolding names_in
   names-next h = go' left h
     where

@@ -2,7 +2,7 @@
 // cells each, the object first.
 #![tactic(auto)]
 
-ghost use Rattle.std.specs.Prelude.{◌≡◌, ◌+◌, ◌*◌, ◌≤◌, ◌<◌, length, drop};
+ghost use Rattle.std.specs.Prelude.{◌≡◌, ◌-◌, ◌*◌, ◌≤◌, ◌<◌, length, drop};
 ghost use Rattle.cells.specs.Cells.{cells};
 ghost use Rattle.layout.specs.Rows.{chunks};
 ghost use Rattle.shape_names.specs.NameScan.{absent as absent-in, names_in};
@@ -12,42 +12,33 @@ pub fn absent(blocks: &[u8], width: usize, count: usize, key: u64) -> bool
     requires { (0 < width) × (count * width * 8 ≤ length blocks.now) }
     ensures { result ≡ absent-in key (chunks width count (cells blocks.now)) }
 {
-    count <= layout::key_index(blocks, width, count, key)
+    layout::key_index(blocks, width, count, key).is_none()
 }
 
-// Two entries from a cell on: do they name different objects, below n? Here and for three and four all is tested, without a branch.
-fn two_names(entries: &[u8], at: usize, n: u64) -> bool
-    requires { (at + 4) * 8 ≤ length entries.now }
-    ensures { result ≡ names_in n 2 (drop at (cells entries.now)) }
+// Does none of the entries from one up to another name the object? All are asked, without a branch.
+fn no_other(entries: &[u8], from: usize, to: usize, object: u64) -> bool
+    requires { (from ≤ to) × (to * 16 ≤ length entries.now) }
+    ensures { result ≡ absent-in object (chunks 2 (to - from) (drop (from * 2) (cells entries.now))) }
 {
-    let a = cells::get(entries, at);
-    let b = cells::get(entries, at + 2);
-    (a < n) & ((b != a) & (b < n))
+    let mut none = true;
+    for i in from..to {
+        none &= cells::get(entries, i * layout::ENTRY_WIDTH) != object;
+    }
+    none
 }
 
-// Three entries: the first, and the others without it.
-fn three_names(entries: &[u8], at: usize, n: u64) -> bool
-    requires { (at + 6) * 8 ≤ length entries.now }
-    ensures { result ≡ names_in n 3 (drop at (cells entries.now)) }
+// So few entries that their number is a constant, and the loops are straight code: do they name different objects, below n? All is tested, without
+// a branch.
+fn few_names<const N: usize>(entries: &[u8], n: u64) -> bool
+    requires { N * 16 ≤ length entries.now }
+    ensures { result ≡ names_in n N (cells entries.now) }
 {
-    let a = cells::get(entries, at);
-    let b = cells::get(entries, at + 2);
-    let c = cells::get(entries, at + 4);
-    let others = two_names(entries, at + 2, n);
-    (a < n) & (((b != a) & (c != a)) & others)
-}
-
-// Four entries: the first, and the others without it.
-fn four_names(entries: &[u8], at: usize, n: u64) -> bool
-    requires { (at + 8) * 8 ≤ length entries.now }
-    ensures { result ≡ names_in n 4 (drop at (cells entries.now)) }
-{
-    let a = cells::get(entries, at);
-    let b = cells::get(entries, at + 2);
-    let c = cells::get(entries, at + 4);
-    let d = cells::get(entries, at + 6);
-    let others = three_names(entries, at + 2, n);
-    (a < n) & (((b != a) & ((c != a) & (d != a))) & others)
+    let mut fine = true;
+    for i in 0..N {
+        let object = cells::get(entries, i * layout::ENTRY_WIDTH);
+        fine &= (object < n) & no_other(entries, i + 1, N, object);
+    }
+    fine
 }
 
 // Do the first count entries name different objects, below n? Each is looked for among those behind it.
@@ -55,20 +46,17 @@ fn many_names(entries: &[u8], count: usize, n: u64) -> bool
     requires { count * 16 ≤ length entries.now }
     ensures { result ≡ names_in n count (cells entries.now) }
 {
-    let mut at = 0;
-    let mut left = count;
-    while 0 < left {
+    for i in 0..count {
+        let at = i * layout::ENTRY_WIDTH;
         let object = cells::get(entries, at);
         if n <= object {
             return false;
         }
-        at += 2;
-        left -= 1;
-        let from = at * 8;
-        if absent(&entries[from..], 2, left, object) {
-            continue;
+        let from = (at + layout::ENTRY_WIDTH) * 8;
+        let left = count - i - 1;
+        if !absent(&entries[from..], layout::ENTRY_WIDTH, left, object) {
+            return false;
         }
-        return false;
     }
     true
 }
@@ -78,17 +66,11 @@ pub fn names_ok(entries: &[u8], count: usize, n: u64) -> bool
     requires { count * 16 ≤ length entries.now }
     ensures { result ≡ names_in n count (cells entries.now) }
 {
-    if count == 1 {
-        return cells::get(entries, 0) < n;
+    match count {
+        1 => few_names::<1>(entries, n),
+        2 => few_names::<2>(entries, n),
+        3 => few_names::<3>(entries, n),
+        4 => few_names::<4>(entries, n),
+        _ => many_names(entries, count, n),
     }
-    if count == 2 {
-        return two_names(entries, 0, n);
-    }
-    if count == 3 {
-        return three_names(entries, 0, n);
-    }
-    if count == 4 {
-        return four_names(entries, 0, n);
-    }
-    many_names(entries, count, n)
 }

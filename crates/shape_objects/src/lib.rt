@@ -15,12 +15,10 @@ fn all_below(part: &[u8], count: usize, bound: u64) -> bool
     requires { length part.now ≡ count * 8 }
     ensures { result ≡ below bound (cells part.now) }
 {
-    let mut i = 0;
-    while i < count {
+    for i in 0..count {
         if bound <= cells::get(part, i) {
             return false;
         }
-        i += 1;
     }
     true
 }
@@ -38,14 +36,9 @@ pub fn header_ok(records: &[u8], l: Limits) -> bool
     let lasts = layout::last_at(l, 0) * 8;
     let readers = layout::reader_at(l, 0) * 8;
     let end = layout::size_at(l) * 8;
-    if all_below(
-        &records[lasts..readers],
-        model::CLIENTS as usize,
-        layout::SEQUENCES,
-    ) {
-        return all_below(&records[readers..end], l.readers, timestamp + 2);
-    }
-    false
+    let clients = model::CLIENTS as usize;
+    all_below(&records[lasts..readers], clients, layout::SEQUENCES)
+        && all_below(&records[readers..end], l.readers, timestamp + 2)
 }
 
 // The number of objects n, their versions beside the readers and inside their bounds, and zeros where there might be more objects.
@@ -68,14 +61,7 @@ pub fn objects_ok(records: &[u8], l: Limits) -> bool
     let first = layout::object_at(l, 0) * 8;
     let end = layout::object_at(l, n) * 8;
     let behind = layout::pending_at(l) * 8;
-    if shape_versions::objects_ok(
-        &records[first..end],
-        &records[readers..last],
-        l.readers,
-        n,
-        timestamp,
-    ) {
-        return zero_scan::all_zero(records, end, behind);
-    }
-    false
+    let objects = &records[first..end];
+    shape_versions::objects_ok(objects, &records[readers..last], l.readers, n, timestamp)
+        && zero_scan::all_zero(records, end, behind)
 }

@@ -1,5 +1,5 @@
 -- The tests of a row. Assumes nothing.
-use Rattle.std.specs.Prelude.{◌≡◌, Bool, true, false, cond, ◌&&◌, List, eqb, ℤ, length, take, drop, get_or}
+use Rattle.std.specs.Prelude.{◌≡◌, Bool, true, false, cond, ◌&&◌, List, eqb, ℤ, Some, None, length, take, drop, get_or}
 use Rattle.std.proofs.Math.Path.{sym, ap, ap₂}
 use Rattle.std.proofs.Common.{◌∙◌, mul_assoc, mul-le-mul_right, get_or-take, eq-eqb, ne_eqb, lt-ltb, le-ltb, le-leb, ltb-true, to_z}
 use Prim.Native.Nat.{ℕ, zero, suc, ◌+◌, ◌-◌, ◌*◌, ◌/◌, ◌%◌, ◌^◌, ◌≤◌, ◌<◌}
@@ -11,7 +11,6 @@ use mir.Syntax.{w64}
 use Rattle.cells.specs.Cells.{cells}
 use Rattle.cells.specs.CellLaws.{cells_rest}
 use Rattle.cells.specs.Zeros.{zeros}
-use Rattle.operation.specs.declared.Decoded.TheVariants.{WellFormed, Malformed}
 use Rattle.operation.specs.Body.{size, is_well_formed, decoded}
 use Rattle.operation.proofs.BodyLaws.{formed, taken, refused}
 use Rattle.execution.specs.Bounds.{inside}
@@ -52,11 +51,11 @@ module _ (most n m : ℕ) (y : List ℕ) (e : m ≡ size y) where
     body-fits =
         body_at ∙ ap (λ (t : Bool). t && (is_well_formed most n (take (1 + 11 * m) y) && zeros (drop (1 + 11 * m) y))) (le-leb (1 + 11 * m) (length y) h)
 
-    pub body-bad : decoded most n (take (1 + 11 * m) y) ≡ Malformed → body_in most n y ≡ false
+    pub body-bad : decoded most n (take (1 + 11 * m) y) ≡ None → body_in most n y ≡ false
     body-bad d =
         body-fits ∙ ap (λ (t : Bool). t && zeros (drop (1 + 11 * m) y)) (refused most n (take (1 + 11 * m) y) d)
 
-    pub body-good : (k : ℕ) → decoded most n (take (1 + 11 * m) y) ≡ WellFormed k → (r : Bool) → r ≡ zeros (slice (1 + 11 * m) (length y) y) → r ≡ body_in most n y
+    pub body-good : (k : ℕ) → decoded most n (take (1 + 11 * m) y) ≡ Some k → (r : Bool) → r ≡ zeros (slice (1 + 11 * m) (length y) y) → r ≡ body_in most n y
     body-good k d r z =
         z ∙ ap (λ (ys : List ℕ). zeros (drop (1 + 11 * m) ys)) (take-length y)
         ∙ sym (body-fits ∙ ap (λ (t : Bool). t && zeros (drop (1 + 11 * m) y)) (taken most n k (take (1 + 11 * m) y) d).0)

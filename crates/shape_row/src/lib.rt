@@ -10,6 +10,17 @@ ghost use Rattle.layout.specs.Offsets.{entry_at};
 ghost use Rattle.shape_row.specs.RowScan.{key_in, body_in, stores_in, sets_in, run_in, row_in, cells_of, place_of};
 ghost use Rattle.shape_row.specs.LentRow.{Objects, Named, Row};
 
+// What every row is judged beside: the last numbers, the objects, and of these the number n and the readers that their versions are for; a body has at
+// most so many operations.
+#[derive(Clone, Copy)]
+pub struct Beside<'a> {
+    pub lasts: &'a [u8],
+    pub objects: &'a [u8],
+    pub readers: usize,
+    pub most: usize,
+    pub n: usize,
+}
+
 // Is a key one of a client's, and unspent, its sequence number being above the client's last?
 fn key_ok(lasts: &[u8], key: u64) -> bool
     requires { length lasts.now ≡ 128 }
@@ -32,10 +43,8 @@ fn body_ok(place: &[u8], most: usize, n: usize) -> bool
     if place.len() < end {
         return false;
     }
-    let operation::Decoded::WellFormed(_) = operation_decoder::decode(&place[..end], most, n) else {
-        return false;
-    };
-    operation_decoder::units_zero(place, end, most - m)
+    operation_decoder::decode(&place[..end], most, n).is_some()
+        && operation_decoder::units_zero(place, end, most - m)
 }
 
 // The cells of a row whose body has at most so many operations, each of which reads or writes one object at most.
@@ -54,14 +63,10 @@ fn stores_ok(entries: &[u8], objects: &[u8], readers: usize, count: usize) -> bo
 {
     let width = versions::object_cells(readers);
     let bounds = versions::width(readers);
-    let mut at = 0;
-    let mut left = count;
-    while 0 < left {
+    for i in 0..count {
+        let at = i * layout::ENTRY_WIDTH;
         let lower = cells::get(entries, at) as usize * width + bounds;
-        if execution::allows(objects, lower, cells::get_signed(entries, at + 1)) {
-            at += 2;
-            left -= 1;
-        } else {
+        if !execution::allows(objects, lower, cells::get_signed(entries, at + 1)) {
             return false;
         }
     }
@@ -95,49 +100,37 @@ fn rest_zero(row: &[u8], most: usize, both: usize) -> bool
 }
 
 // The entries of a row: so many reads, then writes, so many of both, the writes inside their objects' bounds, and zeros behind them.
-fn sets_ok(
-    row: &[u8],
-    objects: &[u8],
-    readers: usize,
-    most: usize,
-    n: u64,
-    reads: usize,
-    both: usize,
-) -> bool
-    requires { (length row.now ≡ cells_of most * 8) × (reads ≤ both) × (both ≤ most) × Objects n readers objects.now }
-    ensures { result ≡ sets_in readers (cells objects.now) n reads both (cells row.now) }
+fn sets_ok(row: &[u8], b: Beside, reads: usize, both: usize) -> bool
+    requires { (length row.now ≡ cells_of b.most * 8) × (reads ≤ both) × (both ≤ b.most) × Objects b.n b.readers b.objects.now }
+    ensures { result ≡ sets_in b.entry.readers (cells b.entry.objects.now) b.entry.n reads both (cells row.now) }
 {
     let first = layout::ROW_FIRST_ENTRY * 8;
     let from = (layout::ROW_FIRST_ENTRY + reads * layout::ENTRY_WIDTH) * 8;
     let writes = &row[from..];
     let stores = both - reads;
-    if shape_names::names_ok(&row[first..], reads, n) {
-        if shape_names::names_ok(writes, stores, n) {
-            if stores_ok(writes, objects, readers, stores) {
-                return rest_zero(row, most, both);
-            }
-        }
-    }
-    false
+    shape_names::names_ok(&row[first..], reads, b.n as u64)
+        && shape_names::names_ok(writes, stores, b.n as u64)
+        && stores_ok(writes, b.objects, b.readers, stores)
+        && rest_zero(row, b.most, both)
 }
 
 // Are there no writes, unless the outcome is 0? A transaction that stopped has none.
 fn stopped_ok(outcome: u64, reads: usize, both: usize) -> bool
     ensures { result ≡ (eqb outcome 0 || eqb reads both) }
 {
-    if outcome == 0 { true } else { reads == both }
+    outcome == 0 || reads == both
 }
 
 // A row's run, of a body of m operations: at its start all zeros, else counter, outcome, read set and write set within their limits. An operation
 // reads or writes one object at most, so that there are no more entries than operations before the counter.
 #[tactic(auto, using(crate::proofs::RunTests::failing_tests))]
-fn run_ok(row: &[u8], objects: &[u8], readers: usize, most: usize, n: u64, m: usize) -> bool
-    requires { (length row.now ≡ cells_of most * 8) × (m ≤ most) × Objects n readers objects.now }
-    ensures { result ≡ run_in readers (cells objects.now) n m (cells row.now) }
+fn run_ok(row: &[u8], b: Beside, m: usize) -> bool
+    requires { (length row.now ≡ cells_of b.most * 8) × (m ≤ b.most) × Objects b.n b.readers b.objects.now }
+    ensures { result ≡ run_in b.entry.readers (cells b.entry.objects.now) b.entry.n m (cells row.now) }
 {
     let counter = cells::get(row, layout::ROW_COUNTER) as usize;
     if counter == 0 {
-        return cells::cells_zero(row, layout::ROW_OUTCOME, row_cells(most));
+        return cells::cells_zero(row, layout::ROW_OUTCOME, row_cells(b.most));
     }
     let outcome = cells::get(row, layout::ROW_OUTCOME);
     let reads = cells::get(row, layout::ROW_READS) as usize;
@@ -154,37 +147,16 @@ fn run_ok(row: &[u8], objects: &[u8], readers: usize, most: usize, n: u64, m: us
     if both < reads {
         return false;
     }
-    if stopped_ok(outcome, reads, both) {
-        return sets_ok(row, objects, readers, most, n, reads, both);
-    }
-    false
+    stopped_ok(outcome, reads, both) && sets_ok(row, b, reads, both)
 }
 
 // One row with the place of its body: its key, its body, and then its run, which is judged by the body's length.
-pub fn row_ok(
-    row: &[u8],
-    place: &[u8],
-    lasts: &[u8],
-    objects: &[u8],
-    readers: usize,
-    most: usize,
-    n: usize,
-) -> bool
-    requires { Row most n readers row.now place.now lasts.now objects.now }
-    ensures { result ≡ row_in most n readers (cells objects.now) (cells lasts.now)
+pub fn row_ok(row: &[u8], place: &[u8], b: Beside) -> bool
+    requires { Row b.most b.n b.readers row.now place.now b.lasts.now b.objects.now }
+    ensures { result ≡ row_in b.entry.most b.entry.n b.entry.readers (cells b.entry.objects.now) (cells b.entry.lasts.now)
         (cells row.now) place.now }
 {
-    if key_ok(lasts, cells::get(row, layout::ROW_KEY)) {
-        if body_ok(place, most, n) {
-            return run_ok(
-                row,
-                objects,
-                readers,
-                most,
-                n as u64,
-                operation::small(place[0]),
-            );
-        }
-    }
-    false
+    key_ok(b.lasts, cells::get(row, layout::ROW_KEY))
+        && body_ok(place, b.most, b.n)
+        && run_ok(row, b, operation::small(place[0]))
 }

@@ -4,9 +4,11 @@
 // by version, for what the quick test does not pass: a damaged area, or versions and readers in numbers that it has no arm for.
 #![tactic(auto)]
 
-ghost use Rattle.std.specs.Prelude.{◌≡◌, [], ◌+◌, ◌*◌, ◌-◌, ◌≤◌, ◌<◌, ◌^◌, length};
+ghost use Rattle.std.specs.Prelude.{◌≡◌, [], ◌+◌, ◌*◌, ◌≤◌, ◌<◌, ◌^◌, length};
 ghost use Rattle.cells.specs.Cells.{cells};
-ghost use Rattle.versions.specs.Block.{object_cells, block_ok, object_ok, blocks_ok, lower, lowest, chained, Lent, LentBlocks};
+ghost use Rattle.versions.specs.Block.{width, object_cells, block_ok, object_ok, blocks_ok, lower, lowest, chained, LentBlocks};
+
+use shape_versions_quick::{Beside, alone, each_object, objects_quick};
 
 // One step of `lowest_open`: c where it is an open reader's cell below top, else top.
 fn lower_of(top: u64, c: u64) -> u64
@@ -25,140 +27,97 @@ fn lowest_open(snapshots: &[u8], readers: usize, top: u64) -> u64
     ensures { result ≡ lowest top (cells snapshots.now) }
 {
     let mut low = top;
-    let mut i = 0;
-    while i < readers {
+    for i in 0..readers {
         low = lower_of(low, cells::get(snapshots, i));
-        i += 1;
     }
     low
 }
 
 // The versions after the newest: each is held by a reader that does not see the one before it, so that their stamps fall, and the last serves
-// every open reader. From the newest down, upper being the stamp of the version before, k the cell of the next one's.
-fn chain_ok(block: &[u8], snapshots: &[u8], readers: usize, count: usize, low: u64) -> bool
-    requires lent { Lent readers snapshots.now block.now }
-    requires versions { (0 < count) × (count ≤ readers + 1) }
-    ensures { result ≡ chained (cells snapshots.now) low count (cells block.now) }
+// every open reader. From the newest down, upper being the stamp of the version before the k-th.
+fn chain_ok(block: &[u8], b: Beside, count: usize) -> bool
+    requires size { length block.now ≡ width b.readers * 8 }
+    requires versions { (0 < count) × (count ≤ b.readers + 1) }
+    ensures { result ≡ chained (cells b.entry.snapshots.now) b.entry.low count (cells block.now) }
 {
     let mut upper = cells::get(block, 1);
-    let mut k = 3;
-    let mut left = count - 1;
-    while 0 < left {
-        let s = cells::get(block, k);
-        if versions::some_between(snapshots, readers, s, upper) {
-            upper = s;
-            k += 2;
-            left -= 1;
-        } else {
+    for k in 1..count {
+        let s = cells::get(block, 1 + 2 * k);
+        if !versions::some_between(b.snapshots, b.readers, s, upper) {
             return false;
         }
+        upper = s;
     }
-    upper < low
+    upper < b.low
 }
 
-// The versions' rules on one block, low being the smallest open reader's cell, or timestamp + 1.
-fn block_ok_general(
-    block: &[u8],
-    snapshots: &[u8],
-    readers: usize,
-    timestamp: u64,
-    low: u64,
-) -> bool
-    requires lent { Lent readers snapshots.now block.now }
-    requires low { low ≡ lowest (timestamp + 1) (cells snapshots.now) }
-    ensures { result ≡ block_ok readers timestamp (cells snapshots.now) (cells block.now) }
+// The versions' rules on one block.
+fn block_ok_general(block: &[u8], b: Beside) -> bool
+    requires { length block.now ≡ width b.readers * 8 }
+    ensures { result ≡ block_ok b.entry.readers b.entry.timestamp (cells b.entry.snapshots.now) (cells block.now) }
 {
     let count = cells::get(block, 0) as usize;
     if count == 0 {
         return false;
     }
-    if readers + 1 < count {
+    if b.readers + 1 < count {
         return false;
     }
-    if timestamp < cells::get(block, 1) {
+    if b.timestamp < cells::get(block, 1) {
         return false;
     }
-    if cells::cells_zero(block, 1 + 2 * count, versions::width(readers)) {
-        chain_ok(block, snapshots, readers, count, low)
+    if cells::cells_zero(block, 1 + 2 * count, versions::width(b.readers)) {
+        chain_ok(block, b, count)
     } else {
         false
     }
 }
 
 // The same, shorter where there is one version.
-fn block_ok(block: &[u8], snapshots: &[u8], readers: usize, timestamp: u64, low: u64) -> bool
-    requires lent { Lent readers snapshots.now block.now }
-    requires low { low ≡ lowest (timestamp + 1) (cells snapshots.now) }
-    ensures { result ≡ block_ok readers timestamp (cells snapshots.now) (cells block.now) }
+fn block_ok(block: &[u8], b: Beside) -> bool
+    requires { length block.now ≡ width b.readers * 8 }
+    ensures { result ≡ block_ok b.entry.readers b.entry.timestamp (cells b.entry.snapshots.now) (cells block.now) }
 {
     if cells::get(block, 0) == 1 {
-        if cells::get(block, 1) < low {
-            return cells::cells_zero(block, 3, versions::width(readers));
+        if cells::get(block, 1) < b.low {
+            return cells::cells_zero(block, 3, versions::width(b.readers));
         }
         return false;
     }
-    block_ok_general(block, snapshots, readers, timestamp, low)
+    block_ok_general(block, b)
 }
 
 // The shape check's rules on one object: its block, and behind it its bounds, which are asked where the count was found to be one that has room.
-fn object_ok(object: &[u8], snapshots: &[u8], readers: usize, timestamp: u64, low: u64) -> bool
-    requires lent { (length snapshots.now ≡ readers * 8) × (length object.now ≡ object_cells readers * 8) }
-    requires low { low ≡ lowest (timestamp + 1) (cells snapshots.now) }
-    ensures { result ≡ object_ok readers timestamp (cells snapshots.now) (cells object.now) }
+fn object_ok(object: &[u8], b: Beside) -> bool
+    requires { length object.now ≡ object_cells b.readers * 8 }
+    ensures { result ≡ object_ok b.entry.readers b.entry.timestamp (cells b.entry.snapshots.now) (cells object.now) }
 {
-    let end = versions::width(readers) * 8;
-    if block_ok(&object[..end], snapshots, readers, timestamp, low) {
-        return shape_bounds::bounds_ok(object, readers);
+    let end = versions::width(b.readers) * 8;
+    if block_ok(&object[..end], b) {
+        return shape_bounds::bounds_ok(object, b.readers);
     }
     false
 }
 
 // The same on n objects, which stand one after another, up to the first that fails.
-fn objects_general(
-    blocks: &[u8],
-    snapshots: &[u8],
-    readers: usize,
-    n: usize,
-    timestamp: u64,
-    low: u64,
-) -> bool
-    requires lent { LentBlocks readers n snapshots.now blocks.now }
-    requires low { low ≡ lowest (timestamp + 1) (cells snapshots.now) }
-    ensures { result ≡ blocks_ok readers timestamp (cells snapshots.now) n (cells blocks.now) }
+fn objects_general(blocks: &[u8], b: Beside, n: usize) -> bool
+    requires { (length blocks.now ≡ n * (object_cells b.readers * 8)) × (b.readers < 2 ^ 32) }
+    ensures { result ≡ blocks_ok b.entry.readers b.entry.timestamp (cells b.entry.snapshots.now) n (cells blocks.now) }
 {
-    let w = versions::object_cells(readers) * 8;
-    let mut at = 0;
-    let mut left = n;
-    while 0 < left {
-        let end = at + w;
-        if object_ok(&blocks[at..end], snapshots, readers, timestamp, low) {
-            at = end;
-            left -= 1;
-        } else {
-            return false;
-        }
-    }
-    true
+    let width = versions::object_cells(b.readers) * 8;
+    each_object(blocks, width, n, |object| object_ok(object, b))
 }
 
 // The same in two halves, so that `objects_general` is called twice and stays a function of its own. Made part of the whole check, it would keep the
 // readers' cells in registers that the quick test's loop needs, and the place of the object would go through memory at each turn.
-fn objects_by_halves(
-    blocks: &[u8],
-    snapshots: &[u8],
-    readers: usize,
-    n: usize,
-    timestamp: u64,
-    low: u64,
-) -> bool
-    requires lent { LentBlocks readers n snapshots.now blocks.now }
-    requires low { low ≡ lowest (timestamp + 1) (cells snapshots.now) }
-    ensures { result ≡ blocks_ok readers timestamp (cells snapshots.now) n (cells blocks.now) }
+fn objects_by_halves(blocks: &[u8], b: Beside, n: usize) -> bool
+    requires { (length blocks.now ≡ n * (object_cells b.readers * 8)) × (b.readers < 2 ^ 32) }
+    ensures { result ≡ blocks_ok b.entry.readers b.entry.timestamp (cells b.entry.snapshots.now) n (cells blocks.now) }
 {
     let half = n / 2;
-    let mid = half * (versions::object_cells(readers) * 8);
-    if objects_general(&blocks[..mid], snapshots, readers, half, timestamp, low) {
-        return objects_general(&blocks[mid..], snapshots, readers, n - half, timestamp, low);
+    let mid = half * (versions::object_cells(b.readers) * 8);
+    if objects_general(&blocks[..mid], b, half) {
+        return objects_general(&blocks[mid..], b, n - half);
     }
     false
 }
@@ -168,19 +127,8 @@ fn objects_alone(blocks: &[u8], readers: usize, n: usize, timestamp: u64) -> boo
     requires { (length blocks.now ≡ n * (object_cells readers * 8)) × (readers < 2 ^ 32) }
     ensures { result ≡ blocks_ok readers timestamp [] n (cells blocks.now) }
 {
-    let w = versions::object_cells(readers) * 8;
-    let mut at = 0;
-    let mut left = n;
-    while 0 < left {
-        let end = at + w;
-        if shape_versions_quick::alone(&blocks[at..end], readers, timestamp) {
-            at = end;
-            left -= 1;
-        } else {
-            return false;
-        }
-    }
-    true
+    let width = versions::object_cells(readers) * 8;
+    each_object(blocks, width, n, |object| alone(object, readers, timestamp))
 }
 
 // The shape check's rules on n objects, which stand one after another: by the form for no open reader, else by the quick test, and by the
@@ -195,8 +143,14 @@ pub fn objects_ok(blocks: &[u8], snapshots: &[u8], readers: usize, n: usize, tim
         return objects_alone(blocks, readers, n, timestamp);
     }
     let low = lowest_open(snapshots, readers, timestamp + 1);
-    if shape_versions_quick::objects_quick(blocks, snapshots, readers, n, timestamp, low) {
+    let b = Beside {
+        snapshots,
+        readers,
+        timestamp,
+        low,
+    };
+    if objects_quick(blocks, b, n) {
         return true;
     }
-    objects_by_halves(blocks, snapshots, readers, n, timestamp, low)
+    objects_by_halves(blocks, b, n)
 }

@@ -1,6 +1,7 @@
 // One object's versions in a block of cells: a count, then stamp and value of each version, the newest first; unused cells are 0. Behind an object's
 // block stand its lower and its upper bound.
-// A reader's cell is 0 where it is closed, else its stamp + 1: snapshots are the cells of all readers.
+// A reader's cell is 0 where it is closed, else its stamp + 1: snapshots are the cells of all readers. Their number goes beside them, since it is
+// the width of a block too.
 #![tactic(auto)]
 
 ghost use Rattle.std.specs.Prelude.{◌≡◌, ◌&&◌, ◌*◌, ◌^◌, ◌<◌, ltb, leb, length};
@@ -29,7 +30,7 @@ pub fn object_cells(readers: usize) -> usize
 fn inside(c: u64, s: u64, upper: u64) -> bool
     ensures { result ≡ ltb s c && leb c upper }
 {
-    if s < c { c <= upper } else { false }
+    s < c && c <= upper
 }
 
 // Does a reader hold a version of stamp s, the next newer one being of stamp upper? Asks the readers one by one, up to the first that does.
@@ -37,17 +38,15 @@ pub fn some_between(snapshots: &[u8], readers: usize, s: u64, upper: u64) -> boo
     requires { length snapshots.now ≡ readers * 8 }
     ensures { result ≡ between (cells snapshots.now) s upper }
 {
-    let mut i = 0;
-    while i < readers {
+    for i in 0..readers {
         if inside(cells::get(snapshots, i), s, upper) {
             return true;
         }
-        i += 1;
     }
     false
 }
 
-// A version as it is seen, and how many were looked at for it.
+// A version as it is seen, and how many were looked at for it. No Option where none is seen: the clause `seen` promises `as_of`, which has 0 there.
 #[derive(Drop)]
 pub struct Seen {
     pub stamp: u64,
@@ -63,8 +62,7 @@ pub fn lookup(block: &[u8], stamp: u64) -> Seen
     ensures looked { result.looked ≡ looked_at stamp (block_versions (cells block.now)) }
 {
     let count = cells::get(block, 0) as usize;
-    let mut above = 0;
-    while above < count {
+    for above in 0..count {
         let k = 1 + 2 * above;
         let s = cells::get(block, k);
         if s <= stamp {
@@ -75,7 +73,6 @@ pub fn lookup(block: &[u8], stamp: u64) -> Seen
                 looked,
             };
         }
-        above += 1;
     }
     let looked = count + 1;
     Seen {

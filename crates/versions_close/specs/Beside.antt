@@ -1,9 +1,10 @@
 -- The readers beside the one that closes: the greatest that is not above it, and the least above it. Assumes nothing.
-use Rattle.std.specs.Prelude.{◌≡◌, ◌⊎◌, Bool, ◌&&◌, ◌||◌, List, ℕ, ◌+◌, ◌*◌, ◌^◌, ◌≤◌, ◌<◌, length, get_or, drop}
+use Rattle.std.specs.Prelude.{◌≡◌, ◌⊎◌, Bool, ◌&&◌, ◌||◌, List, ℕ, ◌+◌, ◌*◌, ◌^◌, ◌≤◌, ◌<◌, max, min, length, get_or, drop}
 use Rattle.std.proofs.Math.Path.{refl}
 use Rattle.std.proofs.Common.{sym, ◌∙◌, inl, inr, arith, lt-ltb, le-ltb, le-leb}
 use Rattle.std.proofs.Math.Bool.{true, false, and-false, or-false}
 use Rattle.std.proofs.Math.Dec.{leb, ltb}
+use Rattle.std.proofs.Math.Nat.{max-eq_left, max-eq_right, min-eq_left, min-eq_right}
 use Rattle.std.proofs.lemmas.Bool.{lt-leb}
 use Rattle.cells.specs.Cells.{cells}
 use Rattle.cells.specs.CellLaws.{cells-next, cells-end}
@@ -47,14 +48,29 @@ smaller_no q x c l u = go' (le_or_lt q u)
 pub smaller_low : (q x c : ℕ) → x ≤ c → (u : ℕ) → leb q u ≡ leb q u || (ltb c x && leb x u)
 smaller_low q x c h u = rw (le-ltb c x h) (sym (or-false (leb q u)))
 
--- each loop starts from a number beside which no reader was seen yet: 0 from below, the greatest cell from above
+-- the greatest so far takes a cell that is not above c, and the least so far one that is
+pub max-taken : (p x c : ℕ) → x ≤ c → (s : ℕ) → ltb s (max p x) ≡ ltb s p || (ltb s x && leb x c)
+max-taken p x c h s = go' (le_or_lt x p)
+  where
+    go' : (x ≤ p) ⊎ (p < x) → ltb s (max p x) ≡ ltb s p || (ltb s x && leb x c)
+    go' (inl l) = rw max-eq_left (greater_no p x c l s)
+    go' (inr l) = let k : p ≤ x = omega arith in rw max-eq_right (greater_yes p x c h l s)
+
+pub min-taken : (q x c : ℕ) → c < x → (u : ℕ) → leb (min q x) u ≡ leb q u || (ltb c x && leb x u)
+min-taken q x c h u = go' (le_or_lt q x)
+  where
+    go' : (q ≤ x) ⊎ (x < q) → leb (min q x) u ≡ leb q u || (ltb c x && leb x u)
+    go' (inl l) = rw min-eq_left (smaller_no q x c l u)
+    go' (inr l) = let k : x ≤ q = omega arith in rw min-eq_right (smaller_yes q x c h l u)
+
+-- each starts from a number beside which no reader was seen yet: 0 from below, the greatest cell from above
 pub lower-start : (cs : List ℕ) (s c : ℕ) → between cs s c ≡ ltb s 0 || between cs s c
 lower-start cs s c = rw (le-ltb s 0 (omega arith))
 
 pub upper-start : (cs : List ℕ) (c u : ℕ) → u < 2 ^ 63 → between cs c u ≡ leb 18446744073709551615 u || between cs c u
 upper-start cs c u h = rw (lt-leb 18446744073709551615 u (omega arith))
 
--- a turn of either loop, and its end: the readers from i on are left
+-- a turn for either, and the loop's end: the readers from i on are left
 module _ (n i : ℕ) (xs : List ℕ) (e : length xs ≡ n * 8) (s u : ℕ) (whole a : Bool) (w : whole ≡ a || between (drop i (cells xs)) s u) where
   pub beside-next : i < n → (x : ℕ) → x ≡ get_or (cells xs) i 0 → (b : Bool) → b ≡ a || (ltb s x && leb x u) → whole ≡ b || between (drop (i + 1) (cells xs)) s u
   unfolding between

@@ -32,25 +32,18 @@ fn keep_held(
     let mut upper = stamp;
     let mut s = stamp;
     let mut v = value;
-    let mut i = start;
-    let mut left = count;
     let mut j = 1;
-    while 0 < left {
+    for k in 0..count {
+        let i = start + 2 * k;
         let t = cells::get(block, i);
         let w = cells::get(block, i + 1);
         if versions::some_between(snapshots, readers, t, upper) {
             put_pair(block, j, s, v);
             s = t;
             v = w;
-            upper = t;
             j += 2;
-            i += 2;
-            left -= 1;
-            continue;
         }
         upper = t;
-        i += 2;
-        left -= 1;
     }
     put_pair(block, j, s, v);
     j + 2

@@ -1,6 +1,6 @@
-use Rattle.std.proofs.Common.{arith, mul-le-mul_right}
+use Rattle.std.proofs.Common.{◌≡◌, subst, arith, mul-le-mul_right}
 use Rattle.layout.specs.Offsets.{row_width}
-use Rattle.final_requeue.specs.Leave.{passing-there, passing-long, passing-found, passing-next}
+use Rattle.final_requeue.specs.Leave.{NextLeaving, passing-there, passing-long, passing-found, passing-next, passing-end}
 use Rattle.final_requeue.proofs.next_leaving.Goals as goal
 
 pub get-key-requires : goal.get-key-requires
@@ -13,8 +13,15 @@ get-key-requires c =
 
 pub returns-then-leaves : goal.returns-then-leaves
 returns-then-leaves c =
-    passing-found c.loop-i.invariant c.requires.sane c.loop-i-test.true c.row_at.ensures.exact c.get-key.ensures c.leaves.ensures c.if-leaves.true
+    (c.loop-i-test.true, passing-found c.loop-i.invariant c.requires.sane c.loop-i-test.true c.row_at.ensures.exact c.get-key.ensures c.leaves.ensures c.if-leaves.true)
 
 pub loop-i-preserved : goal.loop-i-preserved
 loop-i-preserved c =
     passing-next c.loop-i.invariant c.requires.sane c.loop-i-test.true c.row_at.ensures.exact c.get-key.ensures c.leaves.ensures c.if-leaves.false
+
+pub returns : goal.returns
+returns c =
+    let a = c.args in
+    let k = c.loop-i.invariant in
+    let e : c.loop-i.i ≡ a.count = omega (arith, k.within) in
+    subst (NextLeaving a.l a.records.now a.client a.sequence a.count a.from) e (passing-end k c.loop-i-test.false)

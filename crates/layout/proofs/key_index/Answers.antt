@@ -1,4 +1,4 @@
-use Rattle.std.proofs.Common.{◌∙◌, ℕ, ap, sym, arith, get_or}
+use Rattle.std.proofs.Common.{◌≡◌, ◌∙◌, sym, arith}
 use Rattle.cells.specs.Cells.{cells}
 use Rattle.layout.proofs.RowKeysLaws.{first_key}
 use Rattle.layout.proofs.key_index.Goals as goal
@@ -7,13 +7,13 @@ use Rattle.layout.proofs.key_index.Goals as goal
 pub returns-then-get-key : goal.returns-then-get-key
 returns-then-get-key c =
     let s = c.args in
-    let v = c.loop-i.invariant in
-    let e = sym (c.get.ensures ∙ ap (λ (j : ℕ). get_or (cells s.blocks.now) j 0) v.place) ∙ c.if-get-key.true in
-    first_key s.width s.count s.key (cells s.blocks.now) c.loop-i.i v.in_range v.others (λ h. e)
+    let e = sym c.get.ensures ∙ c.if-get-key.true in
+    (omega arith, first_key s.width s.count s.key (cells s.blocks.now) c.loop-i.i (omega arith) c.loop-i.invariant (λ h. e))
 
 -- no block does
 pub returns : goal.returns
 returns c =
     let s = c.args in
-    let v = c.loop-i.invariant in
-    first_key s.width s.count s.key (cells s.blocks.now) c.loop-i.i v.in_range v.others (λ h. absurd (omega arith))
+    let i = c.loop-i.i in
+    let e : i ≡ s.count = omega arith in
+    sym (first_key s.width s.count s.key (cells s.blocks.now) i (omega arith) c.loop-i.invariant (λ h. absurd (omega arith))) ∙ e

@@ -1,11 +1,10 @@
--- What holds before each turn is `Walk`. The measure is the number of rows left.
+-- What holds before each turn is `Walk`.
+use Rattle.std.proofs.Common.{◌-◌, ◌*◌}
 use Rattle.cells.specs.Cells.{cells}
+use Rattle.shape_row.specs.RowScan.{cells_of, place_of}
 use Rattle.shape.specs.RowsWalk.{Walk}
 use Rattle.shape.proofs.each_ok.Given as goal
 
-abbrev pub invariant-loop-left : goal.invariant-loop-left
-invariant-loop-left l =
-    Walk l.most l.n l.readers l.count (cells l.objects) (cells l.lasts) l.rows l.places l.at l.from l.left l.finished
-
-abbrev pub decreases-loop-left : goal.decreases-loop-left
-decreases-loop-left l = l.left
+abbrev pub invariant-loop-i : goal.invariant-loop-i
+invariant-loop-i l =
+    Walk l.b.most l.b.n l.b.readers l.count (cells l.b.objects.now) (cells l.b.lasts.now) l.rows l.places (l.i * (cells_of l.b.most * 8)) (l.i * place_of l.b.most) (l.count - l.i) l.finished

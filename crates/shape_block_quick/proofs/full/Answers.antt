@@ -8,11 +8,7 @@ pub loop-k-preserved : goal.loop-k-preserved
 loop-k-preserved c =
     let a = c.args in
     let i = c.loop-k in
-    record {
-      from_second = omega arith;
-      within = omega arith;
-      climbed = climbed_next a.d.now (cells a.block.now) a.low a.count i.k i.held i.invariant.climbed (omega arith) (a.count - i.k) c.sees-held.result c.sees-held.ensures;
-    }
+    climbed_next a.d.now (cells a.block.now) a.low a.count i.k i.held i.invariant (omega arith) (a.count - i.k) c.sees-held.result c.sees-held.ensures
 
 pub returns : goal.returns
 returns c =
@@ -22,5 +18,5 @@ returns c =
     let last = c.get in
     let newest = c.get-2 in
     let z = rw c.width.ensures at c.cells_zero.ensures in
-    climbed_end a.readers a.timestamp a.block.now c.requires.size a.count v.0 v.1 v.2 a.d.now a.low i.held i.k (omega arith) i.invariant.climbed
+    climbed_end a.readers a.timestamp a.block.now c.requires.size a.count v.0 v.1 v.2 a.d.now a.low i.held i.k (omega arith) i.invariant
     last.result newest.result last.ensures newest.ensures c.cells_zero.result z

@@ -1,5 +1,5 @@
 -- A turn finds the next version held, and at the end the last is held by the earliest open reader, or by none: `walked_next` and `walked_end`.
-use Rattle.std.proofs.Common.{arith}
+use Rattle.std.proofs.Common.{◌≡◌, ◌+◌, ◌*◌, ◌-◌, arith}
 use Rattle.cells.specs.Cells.{cells}
 use Rattle.shape_block_quick.specs.Quick.{walked_next, walked_end}
 use Rattle.shape_block_quick.proofs.quick.Goals as goal
@@ -11,11 +11,9 @@ loop-k-preserved c =
     let s = c.get-s in
     let t = c.down-i in
     record {
-      from_second = omega arith;
-      within = omega arith;
       reader = omega arith;
       older = omega arith;
-      walked = walked_next a.d.now (cells a.block.now) a.low a.count i.upper i.k s.result t.result i.invariant.walked (omega arith) s.ensures (omega arith) (omega arith);
+      walked = walked_next a.d.now.places (cells a.block.now) a.low a.count i.upper i.k s.result t.result i.invariant.walked (omega arith) s.ensures (omega arith) (omega arith);
     }
 
 pub returns : goal.returns
@@ -26,5 +24,6 @@ returns c =
     let f = c.get-newest in
     let s = c.get in
     let z = rw c.width.ensures at c.cells_zero.ensures in
-    walked_end a.readers a.timestamp a.block.now c.requires.size a.count v.0 v.1 v.2 f.result f.ensures c.cells_zero.result z a.d.now a.low
-    i.upper i.k s.result i.invariant.walked (omega arith) i.invariant.older s.ensures
+    let last : 2 * a.count - 1 ≡ 1 + 2 * i.k = omega arith in
+    walked_end a.readers a.timestamp a.block.now c.requires.size a.count v.0 v.1 v.2 f.result f.ensures c.cells_zero.result z a.d.now.places a.low
+    i.upper i.k s.result i.invariant.walked (omega arith) i.invariant.older (rw last at s.ensures)

@@ -1,5 +1,5 @@
 -- A law for each answer.
-use Rattle.std.proofs.Common.{arith}
+use Rattle.std.proofs.Common.{◌∙◌, arith}
 use Rattle.shape_objects.specs.HeaderParts.{header-lasts, header-readers}
 use Rattle.shape_objects.proofs.header_ok.Goals as goal
 
@@ -15,13 +15,14 @@ returns-then-all_below c =
     header-readers a.l a.records.now t.result t.ensures (omega arith) f.result g.result s.result f.ensures.exact g.ensures.exact s.ensures.exact
     p.result p.ensures c.if-all_below.true z.result z.ensures
 
-pub returns : goal.returns
-returns c =
+pub returns-else-all_below : goal.returns-else-all_below
+returns-else-all_below c =
     let a = c.args in
     let t = c.get-timestamp in
     let f = c.last_at-lasts in
     let g = c.reader_at-readers in
     let s = c.size_at-end in
     let p = c.all_below in
-    header-lasts a.l a.records.now t.result t.ensures (omega arith) f.result g.result s.result f.ensures.exact g.ensures.exact s.ensures.exact
+    c.if-all_below.false
+    ∙ header-lasts a.l a.records.now t.result t.ensures (omega arith) f.result g.result s.result f.ensures.exact g.ensures.exact s.ensures.exact
     p.result p.ensures c.if-all_below.false

@@ -37,8 +37,8 @@ returns-then-objects_ok c =
     t.result r.result s.result f.result g.result t.ensures r.ensures.exact s.ensures.exact f.ensures.exact g.ensures.exact
     p.result p.ensures c.if-objects_ok.true b.result b.ensures.exact (omega (arith, b.ensures.inside, c.requires.0.whole)) c.all_zero.result c.all_zero.ensures
 
-pub returns : goal.returns
-returns c =
+pub returns-else-objects_ok : goal.returns-else-objects_ok
+returns-else-objects_ok c =
     let a = c.args in
     let g = c.object_at-end in
     let f = c.object_at-first in
@@ -46,6 +46,7 @@ returns c =
     let s = c.size_at-size in
     let t = c.get-timestamp in
     let p = c.objects_ok in
-    objects-versions a.l a.records.now c.get-n.result (size (goal.at.returns c).After-get-n) (omega arith) (omega arith)
+    c.if-objects_ok.false
+    ∙ objects-versions a.l a.records.now c.get-n.result (size (goal.at.returns-else-objects_ok c).After-get-n) (omega arith) (omega arith)
     t.result r.result s.result f.result g.result t.ensures r.ensures.exact s.ensures.exact f.ensures.exact g.ensures.exact
     p.result p.ensures c.if-objects_ok.false

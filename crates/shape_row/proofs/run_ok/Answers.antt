@@ -8,15 +8,15 @@ use Rattle.shape_row.proofs.run_ok.Goals.{After-stopped_ok}
 
 -- the tests before the last are passed
 passed : (c : After-stopped_ok) → c.get-counter.result ≤ c.args.m → c.get-outcome.result ≤ 3 → c.get-both.result ≤ c.get-counter.result → c.get-reads.result ≤ c.get-both.result
-    → run_in c.args.readers (cells c.args.objects.now) c.args.n c.args.m (cells c.args.row.now)
-    ≡ (eqb c.get-outcome.result 0 || eqb c.get-reads.result c.get-both.result) && sets_in c.args.readers (cells c.args.objects.now) c.args.n c.get-reads.result c.get-both.result (cells c.args.row.now)
+    → run_in c.args.b.readers (cells c.args.b.objects.now) c.args.b.n c.args.m (cells c.args.row.now)
+    ≡ (eqb c.get-outcome.result 0 || eqb c.get-reads.result c.get-both.result) && sets_in c.args.b.readers (cells c.args.b.objects.now) c.args.b.n c.get-reads.result c.get-both.result (cells c.args.row.now)
 passed c body outcomes entries less =
     let k = c.get-counter.result in
     let o = c.get-outcome.result in
     let r = c.get-reads.result in
     let b = c.get-both.result in
     let a = c.args in
-    let told = run-begun a.readers (cells a.objects.now) a.n a.m (cells a.row.now) k c.get-counter.ensures c.if-counter-eq0.false
+    let told = run-begun a.b.readers (cells a.b.objects.now) a.b.n a.m (cells a.row.now) k c.get-counter.ensures c.if-counter-eq0.false
     o r b c.get-outcome.ensures c.get-reads.ensures c.get-both.ensures in
     told ∙ rw (le-leb k a.m body, le-leb o 3 outcomes, le-leb b k entries, le-leb r b less)
 
@@ -28,12 +28,12 @@ returns-then-counter-eq0 c =
     let a = c.args in
     let k = c.get-counter in
     let z = rw c.row_cells.ensures at c.cells_zero.ensures in
-    z ∙ zeros-rest a.row.now (cells_of a.most) 2 c.requires.0 ∙ sym (run-start a.readers (cells a.objects.now) a.n a.m (cells a.row.now) k.result k.ensures c.if-counter-eq0.true)
+    z ∙ zeros-rest a.row.now (cells_of a.b.most) 2 c.requires.0 ∙ sym (run-start a.b.readers (cells a.b.objects.now) a.b.n a.m (cells a.row.now) k.result k.ensures c.if-counter-eq0.true)
 
 pub returns-then-stopped_ok : goal.returns-then-stopped_ok
 returns-then-stopped_ok c =
     last _ _ _ (passed (goal.at.returns-then-stopped_ok c).After-stopped_ok (omega arith) (omega arith) (omega arith) (omega arith)) (sym c.stopped_ok.ensures ∙ c.if-stopped_ok.true) c.sets_ok.result c.sets_ok.ensures
 
-pub returns : goal.returns
-returns c =
-    sym (passed (goal.at.returns c).After-stopped_ok (omega arith) (omega arith) (omega arith) (omega arith) ∙ rw (sym c.stopped_ok.ensures ∙ c.if-stopped_ok.false))
+pub returns-else-stopped_ok : goal.returns-else-stopped_ok
+returns-else-stopped_ok c =
+    c.if-stopped_ok.false ∙ sym (passed (goal.at.returns-else-stopped_ok c).After-stopped_ok (omega arith) (omega arith) (omega arith) (omega arith) ∙ rw (sym c.stopped_ok.ensures ∙ c.if-stopped_ok.false))

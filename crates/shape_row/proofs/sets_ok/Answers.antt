@@ -1,53 +1,56 @@
--- A law for each answer. What is lent of the row are its cells from the reads on, or from the writes on.
-use Rattle.std.proofs.Common.{◌≡◌, ◌+◌, ◌-◌, ◌*◌, ℕ, List, drop, ap, ◌∙◌}
+-- A law for each way through the tests. What is lent of the row are its cells from the reads on, or from the writes on.
+use Rattle.std.proofs.Common.{◌≡◌, ◌+◌, ◌-◌, ◌*◌, ℕ, List, length, take, drop, sym, ap, ◌∙◌}
 use Rattle.cells.specs.Cells.{cells}
 use Rattle.shape_names.specs.NameScan.{names_in}
 use Rattle.shape_names.specs.NameTests.{rest-cells}
 use Rattle.shape_row.specs.RowScan.{stores_in}
 use Rattle.shape_row.specs.RowTests.{sets-reads, sets-writes, sets-outside, sets_behind}
 use Rattle.shape_row.proofs.sets_ok.Goals as goal
-use Rattle.shape_row.proofs.sets_ok.Goals.{After-names_ok, After-names_ok-then-names_ok, After-stores_ok}
+use Rattle.shape_row.proofs.sets_ok.Goals.{then-names_ok, else-names_ok, then-names_ok-2, else-names_ok-2}
 
-reads : (c : After-names_ok) → c.names_ok.result ≡ names_in c.args.n c.args.reads (drop 9 (cells c.args.row.now))
-reads c =
-    let a = c.args in
-    c.names_ok.ensures ∙ ap (λ (x : List ℕ). names_in a.n a.reads x) (rest-cells a.row.now 9)
+-- the names and the stores from a cell on
+names : (n k i : ℕ) (row : List ℕ) → names_in n k (cells (take (length row - i * 8) (drop (i * 8) row))) ≡ names_in n k (drop i (cells row))
+names n k i row = ap (names_in n k) (rest-cells row i)
 
-writes : (c : After-names_ok-then-names_ok) → c.names_ok-then-names_ok.result ≡ names_in c.args.n (c.args.both - c.args.reads) (drop (9 + c.args.reads * 2) (cells c.args.row.now))
-writes c =
-    let a = c.args in
-    c.names_ok-then-names_ok.ensures ∙ ap (λ (x : List ℕ). names_in a.n (a.both - a.reads) x) (rest-cells a.row.now (9 + a.reads * 2))
-
-stores : (c : After-stores_ok)
-    → c.stores_ok.result ≡ stores_in c.args.readers (cells c.args.objects.now) (c.args.both - c.args.reads) (drop (9 + c.args.reads * 2) (cells c.args.row.now))
-stores c =
-    let a = c.args in
-    c.stores_ok.ensures
-    ∙ ap (λ (x : List ℕ). stores_in a.readers (cells a.objects.now) (a.both - a.reads) x) (rest-cells a.row.now (9 + a.reads * 2))
+stores : (readers : ℕ) (os : List ℕ) (k i : ℕ) (row : List ℕ) → stores_in readers os k (cells (take (length row - i * 8) (drop (i * 8) row))) ≡ stores_in readers os k (drop i (cells row))
+stores readers os k i row = ap (stores_in readers os k) (rest-cells row i)
 
 pub returns-then-stores_ok : goal.returns-then-stores_ok
 returns-then-stores_ok c =
     let a = c.args in
-    let g = goal.at.returns-then-stores_ok c in
-    sets_behind a.readers (cells a.objects.now) a.n a.reads a.both (cells a.row.now) c.names_ok.result (reads g.After-names_ok) c.if-names_ok.true
-    c.names_ok-then-names_ok.result (writes g.After-names_ok-then-names_ok) c.if-names_ok-2.true c.stores_ok.result (stores g.After-stores_ok) c.if-stores_ok.true
-    c.rest_zero.result c.rest_zero.ensures
+    let w = 9 + a.reads * 2 in
+    let k = a.both - a.reads in
+    elim c.if-names_ok-2.branch [
+      | then-names_ok-2 v ↦ elim c.if-names_ok.branch [
+        | then-names_ok u ↦
+            sets_behind a.b.readers (cells a.b.objects.now) a.b.n a.reads a.both (cells a.row.now) c.names_ok.result (c.names_ok.ensures ∙ names a.b.n a.reads 9 a.row.now) u.if-names_ok.true
+            u.names_ok-then-names_ok.result (u.names_ok-then-names_ok.ensures ∙ names a.b.n k w a.row.now) (sym u.value-is ∙ v.if-names_ok-2.true)
+            v.stores_ok.result (v.stores_ok.ensures ∙ stores a.b.readers (cells a.b.objects.now) k w a.row.now) (sym v.value-is ∙ c.if-stores_ok.true)
+            c.rest_zero.result c.rest_zero.ensures
+        | else-names_ok u ↦ cc
+      ]
+      | else-names_ok-2 v ↦ cc
+    ]
 
 pub returns-else-stores_ok : goal.returns-else-stores_ok
 returns-else-stores_ok c =
     let a = c.args in
-    let g = goal.at.returns-else-stores_ok c in
-    sets-outside a.readers (cells a.objects.now) a.n a.reads a.both (cells a.row.now) c.names_ok.result (reads g.After-names_ok) c.if-names_ok.true
-    c.names_ok-then-names_ok.result (writes g.After-names_ok-then-names_ok) c.if-names_ok-2.true c.stores_ok.result (stores g.After-stores_ok) c.if-stores_ok.false
-
-pub returns-else-names_ok-2 : goal.returns-else-names_ok-2
-returns-else-names_ok-2 c =
-    let a = c.args in
-    let g = goal.at.returns-else-names_ok-2 c in
-    sets-writes a.readers (cells a.objects.now) a.n a.reads a.both (cells a.row.now) c.names_ok.result (reads g.After-names_ok) c.if-names_ok.true
-    c.names_ok-then-names_ok.result (writes g.After-names_ok-then-names_ok) c.if-names_ok-2.false
-
-pub returns-else-names_ok : goal.returns-else-names_ok
-returns-else-names_ok c =
-    let a = c.args in
-    sets-reads a.readers (cells a.objects.now) a.n a.reads a.both (cells a.row.now) c.names_ok.result (reads (goal.at.returns-else-names_ok c).After-names_ok) c.if-names_ok.false
+    let w = 9 + a.reads * 2 in
+    let k = a.both - a.reads in
+    let reads = c.names_ok.ensures ∙ names a.b.n a.reads 9 a.row.now in
+    c.if-stores_ok.false
+    ∙ elim c.if-names_ok-2.branch [
+      | then-names_ok-2 v ↦ elim c.if-names_ok.branch [
+        | then-names_ok u ↦
+            sets-outside a.b.readers (cells a.b.objects.now) a.b.n a.reads a.both (cells a.row.now) c.names_ok.result reads u.if-names_ok.true
+            u.names_ok-then-names_ok.result (u.names_ok-then-names_ok.ensures ∙ names a.b.n k w a.row.now) (sym u.value-is ∙ v.if-names_ok-2.true)
+            v.stores_ok.result (v.stores_ok.ensures ∙ stores a.b.readers (cells a.b.objects.now) k w a.row.now) (sym v.value-is ∙ c.if-stores_ok.false)
+        | else-names_ok u ↦ cc
+      ]
+      | else-names_ok-2 v ↦ elim c.if-names_ok.branch [
+        | then-names_ok u ↦
+            sets-writes a.b.readers (cells a.b.objects.now) a.b.n a.reads a.both (cells a.row.now) c.names_ok.result reads u.if-names_ok.true
+            u.names_ok-then-names_ok.result (u.names_ok-then-names_ok.ensures ∙ names a.b.n k w a.row.now) (sym u.value-is ∙ v.if-names_ok-2.false)
+        | else-names_ok u ↦ sets-reads a.b.readers (cells a.b.objects.now) a.b.n a.reads a.both (cells a.row.now) c.names_ok.result reads u.if-names_ok.false
+      ]
+    ]

@@ -4,15 +4,15 @@ use Rattle.cells.specs.Cells.{cells}
 use Rattle.versions.proofs.BlockLoops.{ok-single, ok_single-no}
 use Rattle.shape_versions.proofs.block_ok.Goals as goal
 
-pub returns-then-get-low : goal.returns-then-get-low
-returns-then-get-low c =
+pub returns-then-get-b : goal.returns-then-get-b
+returns-then-get-b c =
     let a = c.args in
     let k = c.get in
     let f = c.get-then-get-eq1 in
     let z = rw c.width.ensures at c.cells_zero.ensures in
     let single =
-    ok-single a.readers a.timestamp (cells a.snapshots.now) a.block.now c.requires.lent.block_cells k.result k.ensures (omega arith) (omega arith) f.result f.ensures
-    c.if-get-eq1.true a.low c.requires.low (omega arith) c.cells_zero.result z in
+    ok-single a.b.readers a.b.timestamp (cells a.b.snapshots.now) a.block.now c.requires k.result k.ensures (omega arith) (omega arith) f.result f.ensures
+    c.if-get-eq1.true a.b.low a.b.least (omega arith) c.cells_zero.result z in
     sym single
 
 pub returns-then-get-eq1 : goal.returns-then-get-eq1
@@ -21,6 +21,6 @@ returns-then-get-eq1 c =
     let k = c.get in
     let f = c.get-then-get-eq1 in
     let no =
-    ok_single-no a.readers a.timestamp (cells a.snapshots.now) a.block.now c.requires.lent.block_cells k.result k.ensures (omega arith) (omega arith) f.result f.ensures
-    c.if-get-eq1.true a.low c.requires.low (omega arith) in
+    ok_single-no a.b.readers a.b.timestamp (cells a.b.snapshots.now) a.block.now c.requires k.result k.ensures (omega arith) (omega arith) f.result f.ensures
+    c.if-get-eq1.true a.b.low a.b.least (omega arith) in
     sym no

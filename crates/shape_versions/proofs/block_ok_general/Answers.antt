@@ -8,20 +8,20 @@ pub returns-then-count-eq0 : goal.returns-then-count-eq0
 returns-then-count-eq0 c =
     let a = c.args in
     let k = c.get-count in
-    sym (ok-none a.readers a.timestamp (cells a.snapshots.now) a.block.now c.requires.lent.block_cells k.result k.ensures (omega arith))
+    sym (ok-none a.b.readers a.b.timestamp (cells a.b.snapshots.now) a.block.now c.requires k.result k.ensures (omega arith))
 
-pub returns-then-readers-count : goal.returns-then-readers-count
-returns-then-readers-count c =
+pub returns-then-b-count : goal.returns-then-b-count
+returns-then-b-count c =
     let a = c.args in
     let k = c.get-count in
-    sym (ok-many a.readers a.timestamp (cells a.snapshots.now) a.block.now c.requires.lent.block_cells k.result k.ensures (omega arith))
+    sym (ok-many a.b.readers a.b.timestamp (cells a.b.snapshots.now) a.block.now c.requires k.result k.ensures (omega arith))
 
-pub returns-then-timestamp-get : goal.returns-then-timestamp-get
-returns-then-timestamp-get c =
+pub returns-then-b-get : goal.returns-then-b-get
+returns-then-b-get c =
     let a = c.args in
     let k = c.get-count in
     let f = c.get in
-    sym (ok-late a.readers a.timestamp (cells a.snapshots.now) a.block.now c.requires.lent.block_cells k.result k.ensures (omega arith) (omega arith) f.result f.ensures (omega arith))
+    sym (ok-late a.b.readers a.b.timestamp (cells a.b.snapshots.now) a.block.now c.requires k.result k.ensures (omega arith) (omega arith) f.result f.ensures (omega arith))
 
 pub returns-then-cells_zero : goal.returns-then-cells_zero
 returns-then-cells_zero c =
@@ -31,8 +31,8 @@ returns-then-cells_zero c =
     let z = c.cells_zero in
     let behind = rw c.width.ensures at z.ensures in
     let chain =
-    ok-chain a.readers a.timestamp (cells a.snapshots.now) a.block.now c.requires.lent.block_cells k.result k.ensures (omega arith) (omega arith) f.result f.ensures
-    z.result behind c.if-cells_zero.true (omega arith) a.low c.requires.low in
+    ok-chain a.b.readers a.b.timestamp (cells a.b.snapshots.now) a.block.now c.requires k.result k.ensures (omega arith) (omega arith) f.result f.ensures
+    z.result behind c.if-cells_zero.true (omega arith) a.b.low a.b.least in
     c.chain_ok.ensures ∙ sym chain
 
 pub returns-else-cells_zero : goal.returns-else-cells_zero
@@ -43,6 +43,6 @@ returns-else-cells_zero c =
     let z = c.cells_zero in
     let behind = rw c.width.ensures at z.ensures in
     let used =
-    ok-used a.readers a.timestamp (cells a.snapshots.now) a.block.now c.requires.lent.block_cells k.result k.ensures (omega arith) (omega arith) f.result f.ensures
+    ok-used a.b.readers a.b.timestamp (cells a.b.snapshots.now) a.block.now c.requires k.result k.ensures (omega arith) (omega arith) f.result f.ensures
     z.result behind c.if-cells_zero.false in
     sym used

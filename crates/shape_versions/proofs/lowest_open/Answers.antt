@@ -12,13 +12,10 @@ loop-i-preserved c =
     let i = c.loop-i in
     let step = lowest_step a.readers i.i xs i.low c.requires (omega arith) in
     let lowered = ap (lower i.low) (sym c.get.ensures) ∙ sym c.lower_of-low.ensures in
-    record {
-      passed = omega arith;
-      rest = i.invariant.rest ∙ step ∙ ap (λ (t : ℕ). lowest t (drop (i.i + 1) (cells xs))) lowered;
-    }
+    i.invariant ∙ step ∙ ap (λ (t : ℕ). lowest t (drop (i.i + 1) (cells xs))) lowered
 
 pub returns : goal.returns
 returns c =
     let a = c.args in
     let i = c.loop-i in
-    sym (i.invariant.rest ∙ lowest-end a.readers i.i a.snapshots.now i.low c.requires (omega arith))
+    sym (i.invariant ∙ lowest-end a.readers i.i a.snapshots.now i.low c.requires (omega arith))

@@ -28,33 +28,33 @@ module _ (n k w : ℕ) (xs : List ℕ) (ew : w ≡ object_cells n) (ex : length 
   unfolding mid
   halves timestamp rc = rw ew (blocks-halves n timestamp rc (k / 2) (k - k / 2) k xs (omega arith) ex)
 
-pub objects_general-requires-then-objects_general-clause-lent : goal.objects_general-requires-then-objects_general-clause-lent
+pub objects_general-requires-then-objects_general : goal.objects_general-requires-then-objects_general
 unfolding mid
-objects_general-requires-then-objects_general-clause-lent c =
+objects_general-requires-then-objects_general c =
     let a = c.args in
-    let p = c.requires.lent in
+    let p = c.requires.0 in
     let w = c.object_cells in
-    let size = ap length (rest a.readers a.n w.result a.blocks.now w.ensures p.block_cells) ∙ rest-bytes a.readers a.n w.result a.blocks.now w.ensures p.block_cells in
-    record { reader_cells = p.reader_cells; block_cells = size; few = p.few }
+    let size = ap length (rest a.b.readers a.n w.result a.blocks.now w.ensures p) ∙ rest-bytes a.b.readers a.n w.result a.blocks.now w.ensures p in
+    (size, c.requires.1)
 
 pub returns-then-objects_general : goal.returns-then-objects_general
 unfolding mid
 returns-then-objects_general c =
     let a = c.args in
-    let rc = cells a.snapshots.now in
-    let p = c.requires.lent in
+    let rc = cells a.b.snapshots.now in
+    let p = c.requires.0 in
     let w = c.object_cells in
-    let ok = λ (xs : List ℕ). blocks_ok a.readers a.timestamp rc (a.n - a.n / 2) (cells xs) in
+    let ok = λ (xs : List ℕ). blocks_ok a.b.readers a.b.timestamp rc (a.n - a.n / 2) (cells xs) in
     let second = ok (drop (a.n / 2 * (w.result * 8)) a.blocks.now) in
     c.objects_general-then-objects_general.ensures
-    ∙ ap ok (rest a.readers a.n w.result a.blocks.now w.ensures p.block_cells)
-    ∙ sym (halves a.readers a.n w.result a.blocks.now w.ensures p.block_cells a.timestamp rc ∙ ap (◌&& second) (sym c.objects_general.ensures ∙ c.if-objects_general.true))
+    ∙ ap ok (rest a.b.readers a.n w.result a.blocks.now w.ensures p)
+    ∙ sym (halves a.b.readers a.n w.result a.blocks.now w.ensures p a.b.timestamp rc ∙ ap (◌&& second) (sym c.objects_general.ensures ∙ c.if-objects_general.true))
 
 pub returns : goal.returns
 unfolding mid
 returns c =
     let a = c.args in
-    let rc = cells a.snapshots.now in
+    let rc = cells a.b.snapshots.now in
     let w = c.object_cells in
-    let second = blocks_ok a.readers a.timestamp rc (a.n - a.n / 2) (cells (drop (a.n / 2 * (w.result * 8)) a.blocks.now)) in
-    sym (halves a.readers a.n w.result a.blocks.now w.ensures c.requires.lent.block_cells a.timestamp rc ∙ ap (◌&& second) (sym c.objects_general.ensures ∙ c.if-objects_general.false))
+    let second = blocks_ok a.b.readers a.b.timestamp rc (a.n - a.n / 2) (cells (drop (a.n / 2 * (w.result * 8)) a.blocks.now)) in
+    sym (halves a.b.readers a.n w.result a.blocks.now w.ensures c.requires.0 a.b.timestamp rc ∙ ap (◌&& second) (sym c.objects_general.ensures ∙ c.if-objects_general.false))

@@ -13,40 +13,31 @@ pub loop-above-init : goal.loop-above-init
 loop-above-init c =
     let a = c.args in
     let all = left-first c.get-count.result (cells a.block.now) c.get-count.ensures in
-    record { within = omega arith; seen = ap (as_of a.stamp) all; passed = omega (arith, ap (seen_index a.stamp) all) }
+    record { seen = ap (as_of a.stamp) all; passed = omega (arith, ap (seen_index a.stamp) all) }
 
-pub returns-then-s-stamp-clause-seen : goal.returns-then-s-stamp-clause-seen
-returns-then-s-stamp-clause-seen c =
+pub returns-then-s-stamp : goal.returns-then-s-stamp
+returns-then-s-stamp c =
     let a = c.args in
     let i = c.loop-above in
     let here = look-here a.stamp c.get-count.result i.above (cells a.block.now) c.loop-above-test.true _ c.get-s.result refl c.get-s.ensures c.if-s-stamp.true in
-    let value = told c.get_signed.type_inv c.get_signed.ensures in
-    ap (λ (v : ℤ). record { stamp = c.get-s.result; value = v }) value ∙ sym (i.invariant.seen ∙ here.0)
-
-pub returns-then-s-stamp-clause-looked : goal.returns-then-s-stamp-clause-looked
-returns-then-s-stamp-clause-looked c =
-    let a = c.args in
-    let i = c.loop-above in
-    let here = look-here a.stamp c.get-count.result i.above (cells a.block.now) c.loop-above-test.true _ c.get-s.result refl c.get-s.ensures c.if-s-stamp.true in
-    omega (arith, looked_at-order a.stamp (block_versions (cells a.block.now)) c.requires.order, i.invariant.passed, here.1)
+    record {
+      seen = ap (λ (v : ℤ). record { stamp = c.get-s.result; value = v }) (told c.get_signed.type_inv c.get_signed.ensures) ∙ sym (i.invariant.seen ∙ here.0);
+      looked = omega (arith, looked_at-order a.stamp (block_versions (cells a.block.now)) c.requires.order, i.invariant.passed, here.1);
+    }
 
 pub loop-above-preserved : goal.loop-above-preserved
 loop-above-preserved c =
     let a = c.args in
     let i = c.loop-above in
     let on = look-on a.stamp c.get-count.result i.above (cells a.block.now) c.loop-above-test.true _ c.get-s.result refl c.get-s.ensures c.if-s-stamp.false in
-    record { within = omega arith; seen = i.invariant.seen ∙ on.0; passed = omega (arith, i.invariant.passed, on.1) }
+    record { seen = i.invariant.seen ∙ on.0; passed = omega (arith, i.invariant.passed, on.1) }
 
-pub returns-clause-seen : goal.returns-clause-seen
-returns-clause-seen c =
+pub returns : goal.returns
+returns c =
     let a = c.args in
     let i = c.loop-above in
     let none = left-none c.get-count.result i.above (cells a.block.now) c.loop-above-test.false in
-    sym (i.invariant.seen ∙ ap (as_of a.stamp) none)
-
-pub returns-clause-looked : goal.returns-clause-looked
-returns-clause-looked c =
-    let a = c.args in
-    let i = c.loop-above in
-    let none = left-none c.get-count.result i.above (cells a.block.now) c.loop-above-test.false in
-    omega (arith, looked_at-order a.stamp (block_versions (cells a.block.now)) c.requires.order, i.invariant.passed, ap (seen_index a.stamp) none, i.invariant.within)
+    record {
+      seen = sym (i.invariant.seen ∙ ap (as_of a.stamp) none);
+      looked = omega (arith, looked_at-order a.stamp (block_versions (cells a.block.now)) c.requires.order, i.invariant.passed, ap (seen_index a.stamp) none, i.auto.above-end);
+    }

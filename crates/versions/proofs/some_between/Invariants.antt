@@ -1,14 +1,8 @@
 -- After i turns the answer is that of the readers from i on.
-use Rattle.std.proofs.Common.{◌≡◌, ◌≤◌, ◌-◌, drop}
+use Rattle.std.proofs.Common.{◌≡◌, drop}
 use Rattle.cells.specs.Cells.{cells}
 use Rattle.versions.specs.Block.{between}
 use Rattle.versions.proofs.some_between.Given as goal
 
 abbrev pub invariant-loop-i : goal.invariant-loop-i
-invariant-loop-i l = record {
-  within : l.i ≤ l.readers;
-  rest : between (cells l.snapshots) l.s l.upper ≡ between (drop l.i (cells l.snapshots)) l.s l.upper;
-}
-
-abbrev pub decreases-loop-i : goal.decreases-loop-i
-decreases-loop-i l = l.readers - l.i
+invariant-loop-i l = between (cells l.snapshots) l.s l.upper ≡ between (drop l.i (cells l.snapshots)) l.s l.upper

@@ -1,17 +1,9 @@
 -- A turn of the loop over the places, and its end.
-use Rattle.std.proofs.Common.{◌≡◌, ◌+◌, ◌-◌, ◌*◌, leb, drop, arith}
+use Rattle.std.proofs.Common.{◌-◌, ◌+◌, ◌*◌, leb, drop, arith}
 use Rattle.cells.specs.Cells.{cells}
 use Rattle.versions_close.specs.Closing.{seen}
 use Rattle.versions_close.specs.Seen.{seen_next, seen_end, byte_le}
 use Rattle.versions_close.proofs.not_seen.Goals as goal
-
-pub loop-i-init : goal.loop-i-init
-loop-i-init c =
-    let e : c.args.readers - 0 ≡ c.args.readers = omega arith in
-    record { within = omega arith; counted = omega arith; whole = rw e (omega arith) }
-
-pub overflow_add-j : goal.overflow_add-j
-overflow_add-j c = omega (arith, byte_le (leb c.args.c c.get.result))
 
 pub loop-i-preserved : goal.loop-i-preserved
 loop-i-preserved c =
@@ -19,9 +11,8 @@ loop-i-preserved c =
     let i = c.loop-i in
     let bc = cells a.block.now in
     record {
-      within = omega arith;
-      counted = omega (arith, byte_le (leb a.c c.get.result));
-      whole = seen_next a.c a.readers i.i i.j bc (seen a.c a.readers (drop 1 bc)) i.invariant.whole c.loop-i-test.true c.get.result c.get.ensures;
+      counted = omega (arith, c.from-j.ensures, byte_le (leb a.c c.get.result));
+      whole = rw c.from-j.ensures (seen_next a.c a.readers i.i i.j bc (seen a.c a.readers (drop 1 bc)) i.invariant.whole c.loop-i-test.true c.get.result c.get.ensures);
     }
 
 pub returns : goal.returns

@@ -6,10 +6,6 @@ use Rattle.versions_close.proofs.not_seen.Given as goal
 
 abbrev pub invariant-loop-i : goal.invariant-loop-i
 invariant-loop-i l = record {
-  within : l.i ≤ l.readers;
   counted : l.j ≤ l.i;
   whole : seen l.c l.readers (drop 1 (cells l.block)) ≡ l.j + seen l.c (l.readers - l.i) (drop (1 + 2 * l.i) (cells l.block));
 }
-
-abbrev pub decreases-loop-i : goal.decreases-loop-i
-decreases-loop-i l = l.readers - l.i

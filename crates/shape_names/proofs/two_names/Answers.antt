@@ -1,9 +1,0 @@
--- The tests are those of the entries, one after another.
-use Rattle.cells.specs.Cells.{cells}
-use Rattle.shape_names.specs.NameTests.{two-names}
-use Rattle.shape_names.proofs.two_names.Goals as goal
-
-pub returns : goal.returns
-returns c =
-    let a = c.args in
-    two-names a.n a.at (cells a.entries.now) c.get-a.result c.get-b.result c.get-a.ensures c.get-b.ensures
