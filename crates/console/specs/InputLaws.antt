@@ -3,28 +3,23 @@ use Rattle.std.specs.Prelude.{◌≡◌, ℕ, ◌+◌, ◌≤◌, List, ◌++◌
 use Rattle.std.proofs.Common.{arith, length-drop, length-take-le, take_at}
 use Rattle.std.proofs.lemmas.List.{take-append-le}
 use Rattle.std.proofs.Math.Seq.{take-append-add}
-use Rattle.cells.specs.Cells.{splice}
 
 behind : (xs ys : List ℕ) (k n : ℕ) → length xs ≡ k → take (k + n) (xs ++ ys) ≡ xs ++ take n ys
 behind xs ys k n e = rw (← e) (take-append-add xs ys n)
 
--- The unused bytes, which are k from an index on, were moved to the start of moved, and the part behind them was lent and came back as part, of which
+-- The unused bytes, which are k from an index on, were copied to the start of moved, and the part behind them was lent and came back as part, of which
 -- the first n are read.
-pub unused-read : (before moved part rest : List ℕ) (from k n m : ℕ) → from + k ≤ length before → moved ≡ splice before 0 (take k (drop from before)) → n ≤ length part → m ≡ k + n
+pub unused-read : (before moved part rest : List ℕ) (from k n m : ℕ) → from + k ≤ length before → take k moved ≡ take k (drop from before) → n ≤ length part → m ≡ k + n
     → take m (take k moved ++ (part ++ rest)) ≡ take k (drop from before) ++ take n part
-unfolding splice
 unused-read before moved part rest from k n m h e l f =
     let unused = take k (drop from before) in
     let w : length unused ≡ k = length-take-le k (drop from before) (simp length-drop (omega arith)) in
-    let kept : take k moved ≡ unused = rw e (take_at unused (drop (0 + length unused) before) k w) in
-    rw (f, kept, behind unused (part ++ rest) k n w, take-append-le n part rest l)
+    rw (f, e, behind unused (part ++ rest) k n w, take-append-le n part rest l)
 
 -- The same, of a part of which nothing is known: the unused bytes stand at the start.
-pub unused-kept : (before moved part rest : List ℕ) (from k : ℕ) → from + k ≤ length before → moved ≡ splice before 0 (take k (drop from before))
+pub unused-kept : (before moved part rest : List ℕ) (from k : ℕ) → from + k ≤ length before → take k moved ≡ take k (drop from before)
     → take k (take k moved ++ (part ++ rest)) ≡ take k (drop from before)
-unfolding splice
 unused-kept before moved part rest from k h e =
     let unused = take k (drop from before) in
     let w : length unused ≡ k = length-take-le k (drop from before) (simp length-drop (omega arith)) in
-    let kept : take k moved ≡ unused = rw e (take_at unused (drop (0 + length unused) before) k w) in
-    rw kept (take_at unused (part ++ rest) k w)
+    rw e (take_at unused (part ++ rest) k w)

@@ -7,7 +7,7 @@ use std::io;
 use std::io::Read;
 
 // The bytes of the buffer from index from up to, not including, index end are read and not used yet.
-#[derive(Drop)]
+#[derive(Clone, Copy)]
 pub struct Input {
     pub from: usize,
     pub end: usize,
@@ -19,11 +19,7 @@ impl Input {
     pub fn behind(self, at: usize) -> Input
         ensures { (result.from ≡ at) × (result.end ≡ self.end) }
     {
-        Input {
-            from: at,
-            end: self.end,
-            ended: self.ended,
-        }
+        Input { from: at, ..self }
     }
 }
 
@@ -40,9 +36,8 @@ pub fn more<R: Read>(reader: &mut R, buffer: &mut [u8], input: Input) -> io::Res
     ensures err_unused { OnErr result (take (input.end - input.from) buffer.new ≡ unused input buffer.old) }
     ensures err_reader { OnErr result (Keeps (R.remaining reader.old) (R.remaining reader.new)) }
 {
-    let from = input.from;
-    let unread = input.end - from;
-    cells::move_down(buffer, 0, from, unread);
+    let unread = input.end - input.from;
+    buffer.copy_within(input.from..input.end, 0);
     let n = reader.read(&mut buffer[unread..])?;
     Ok(Input {
         from: 0,

@@ -5,9 +5,11 @@ ghost use Rattle.std.specs.Io.KnownBytes.{Appends};
 use std::io;
 use std::io::{ErrorKind, Write};
 use text::buffer;
+use text::buffer::Text;
 
 // Writes all of text. An error is the writer's, or says that it takes no more: a start of the text is written, and not all of it.
-// Nothing says that signals end, so the writes that they cut off are counted down from a number that no run uses up.
+// Nothing says that signals end, so the writes that they cut off are counted down from a number that no run uses up. No `for`: a write takes as much as
+// it likes.
 fn write_all<W: Write>(writer: &mut W, text: &[u8]) -> io::Result<()>
     ensures ok { OnOk result (Appends (W.contents writer.old) (W.contents writer.new) text.now) }
     ensures err { OnErr result ((sent : ℕ) × (sent < length text.now)
@@ -37,6 +39,9 @@ pub fn write_line<W: Write>(writer: &mut W, out: &mut [u8], n: usize) -> io::Res
     ensures err { OnErr result ((sent : ℕ) × (sent ≤ n)
         × Appends (W.contents writer.old) (W.contents writer.new) (take sent out.old)) }
 {
-    let end = buffer::put(out, n, b"\n");
-    write_all(writer, buffer::front(out, end))
+    let mut line = Text { out, end: n };
+    line.put(b"\n");
+    let end = line.end;
+    let made = &*line.out;
+    write_all(writer, buffer::front(made, end))
 }

@@ -1,111 +1,123 @@
 // The answers of the calls as text, each as one line of numbers in a lent buffer. What writes them stands in `console`.
 #![tactic(auto)]
 
-ghost use Rattle.std.specs.Prelude.{◌≡◌, ◌∷◌};
+ghost use Rattle.std.specs.Prelude.{◌≡◌, ◌-◌, ◌<◌, ◌≤◌, ◌∷◌, pos, replicate};
 ghost use Rattle.model.specs.Calls.{execute, final, open_reader, read, find, dry_run};
-ghost use Rattle.model.specs.Answers.{reply, execution, delivery, reading, finding, preview};
+ghost use Rattle.model.specs.Answers.{number, reply, execution, delivery, reading, finding, preview};
+ghost use Rattle.text.specs.Numerals.{Line};
 ghost use Rattle.console_answers.specs.Output.{Answered};
 
-use model::{Delivery, Execution, Finding, Preview, Previewing, Reading, Reply};
+use model::{Commit, Executed, Found, Preview, Refusal, Version};
 use text::numerals;
 
-// Each answer is a list of numbers: 0 and the results, or a refusal's number and zeros.
-pub fn put_reply(out: &mut [u8], r: Reply) -> usize
+// A refusal's line has N numbers: its own, and zeros in place of the results.
+fn put_refusal<const N: usize>(out: &mut [u8], refusal: Refusal) -> usize
+    requires { (0 < N) × (N ≤ 132) }
+    ensures { Line out.old (pos (number refusal) ∷ replicate (N - 1) (pos 0)) out.new result }
+{
+    let mut line = [0; N];
+    line[0] = i64::from(u32::from(refusal));
+    numerals::put_numbers(out, &line)
+}
+
+// Each answer is a list of numbers: 0 and the results, or a refusal's.
+#[tactic(auto, unfolding(model::specs::Calls::numbers))]
+pub fn put_reply(out: &mut [u8], r: Result<(), Refusal>) -> usize
     ensures { Answered out.old (open_reader 0) (reply r) out.new result }
 {
     match r {
-        Reply::Done => numerals::put_numbers(out, &[0]),
-        Reply::Refused(k) => numerals::put_numbers(out, &[k as i64]),
+        Ok(()) => numerals::put_numbers(out, &[0]),
+        Err(refusal) => put_refusal::<1>(out, refusal),
     }
 }
 
 // Work's: operations carried out, pending transactions finished.
-pub fn put_execution(out: &mut [u8], r: Execution) -> usize
+#[tactic(auto, unfolding(model::specs::Calls::numbers))]
+pub fn put_execution(out: &mut [u8], r: Result<Executed, Refusal>) -> usize
     ensures { Answered out.old (execute 0) (execution r) out.new result }
 {
     match r {
-        Execution::Executed(operations, finished) => {
-            numerals::put_numbers(out, &[0, operations as i64, finished as i64])
+        Ok(e) => {
+            let operations = i64::from(e.operations);
+            let finished = i64::from(e.finished);
+            numerals::put_numbers(out, &[0, operations, finished])
         }
-        Execution::Refused(k) => numerals::put_numbers(out, &[k as i64, 0, 0]),
+        Err(refusal) => put_refusal::<3>(out, refusal),
     }
 }
 
 // A final delivery's: outcome, kept (1) or run again (0), new stamp, number of objects stored, operations carried out.
-pub fn put_delivery(out: &mut [u8], r: Delivery) -> usize
+#[tactic(auto, unfolding(model::specs::Calls::numbers))]
+pub fn put_delivery(out: &mut [u8], r: Result<Commit, Refusal>) -> usize
     ensures { Answered out.old (final 0 0) (delivery r) out.new result }
 {
     match r {
-        Delivery::Committed(c) => {
-            let outcome = c.outcome as i64;
-            let stamp = c.timestamp.0 as i64;
-            let stored = c.stored as i64;
-            let operations = c.operations as i64;
-            if c.validated {
-                numerals::put_numbers(out, &[0, outcome, 1, stamp, stored, operations])
-            } else {
-                numerals::put_numbers(out, &[0, outcome, 0, stamp, stored, operations])
-            }
+        Ok(c) => {
+            let outcome = i64::from(c.outcome);
+            let kept = i64::from(c.validated);
+            let stamp = i64::from(c.timestamp.0);
+            let stored = i64::from(c.stored);
+            let operations = i64::from(c.operations);
+            numerals::put_numbers(out, &[0, outcome, kept, stamp, stored, operations])
         }
-        Delivery::Refused(k) => numerals::put_numbers(out, &[k as i64, 0, 0, 0, 0, 0]),
+        Err(refusal) => put_refusal::<6>(out, refusal),
     }
 }
 
 // Read's: value and stamp of the version that the reader sees.
-pub fn put_reading(out: &mut [u8], r: Reading) -> usize
+#[tactic(auto, unfolding(model::specs::Calls::numbers))]
+pub fn put_reading(out: &mut [u8], r: Result<Version, Refusal>) -> usize
     ensures { Answered out.old (read 0 0) (reading r) out.new result }
 {
     match r {
-        Reading::Version(v, t) => numerals::put_numbers(out, &[0, v, t.0 as i64]),
-        Reading::Refused(k) => numerals::put_numbers(out, &[k as i64, 0, 0]),
+        Ok(v) => {
+            let stamp = i64::from(v.timestamp.0);
+            numerals::put_numbers(out, &[0, v.value, stamp])
+        }
+        Err(refusal) => put_refusal::<3>(out, refusal),
     }
 }
 
 // Find's: place in the optimistic order, length of the body.
-pub fn put_finding(out: &mut [u8], r: Finding) -> usize
+#[tactic(auto, unfolding(model::specs::Calls::numbers))]
+pub fn put_finding(out: &mut [u8], r: Result<Found, Refusal>) -> usize
     ensures { Answered out.old (find 0 0) (finding r) out.new result }
 {
     match r {
-        Finding::Found(p, length) => { numerals::put_numbers(out, &[0, p.0 as i64, length as i64]) }
-        Finding::Refused(k) => numerals::put_numbers(out, &[k as i64, 0, 0]),
+        Ok(f) => {
+            let place = i64::from(f.position.0);
+            let length = i64::from(f.length);
+            numerals::put_numbers(out, &[0, place, length])
+        }
+        Err(refusal) => put_refusal::<3>(out, refusal),
     }
 }
 
-// The numbers of a dry run's line: four, and the values behind them. In the loop the four and the first i values stand in it already.
-fn preview_line(number: i64, outcome: i64, kept: i64, stamp: i64, values: [i64; 128]) -> [i64; 132]
-    ensures { result ≡ number ∷ outcome ∷ kept ∷ stamp ∷ values }
+// The numbers of a dry run's line: four, and the values behind them.
+fn preview_line(outcome: i64, kept: i64, stamp: i64, values: &[i64; 128]) -> [i64; 132]
+    ensures { result ≡ pos 0 ∷ outcome ∷ kept ∷ stamp ∷ values.now }
 {
-    let mut line: [i64; 132] = [0; 132];
-    line[0] = number;
+    let mut line = [0; 132];
     line[1] = outcome;
     line[2] = kept;
     line[3] = stamp;
-    let mut i = 0;
-    while i < 128 {
-        line[4 + i] = values[i];
-        i += 1;
-    }
+    line[4..].copy_from_slice(values);
     line
 }
 
 // A dry run's: outcome, kept (1) or run again (0), the stamp that it would get, and the value that each object would hold.
-pub fn put_preview(out: &mut [u8], r: Preview) -> usize
+#[tactic(auto, unfolding(model::specs::Calls::numbers, model::specs::Calls::preview_places))]
+pub fn put_preview(out: &mut [u8], r: Result<Preview, Refusal>) -> usize
     ensures { Answered out.old (dry_run 0 0) (preview r) out.new result }
 {
-    let answer = r.answer;
-    let values = r.values;
-    match answer {
-        Previewing::Would(f) => {
-            let outcome = f.outcome as i64;
-            let kept = f.validated as i64;
-            let stamp = f.timestamp.0 as i64;
-            let line = preview_line(0, outcome, kept, stamp, values);
+    match r {
+        Ok(p) => {
+            let outcome = i64::from(p.outcome);
+            let kept = i64::from(p.validated);
+            let stamp = i64::from(p.timestamp.0);
+            let line = preview_line(outcome, kept, stamp, &p.values);
             numerals::put_numbers(out, &line)
         }
-        Previewing::Refused(k) => {
-            let zeros: [i64; 128] = [0; 128];
-            let line = preview_line(k as i64, 0, 0, 0, zeros);
-            numerals::put_numbers(out, &line)
-        }
+        Err(refusal) => put_refusal::<132>(out, refusal),
     }
 }

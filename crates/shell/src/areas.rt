@@ -1,114 +1,73 @@
 // The commands on the areas themselves: lend, poke and dump.
 use crate::commands::{Answer, Lent};
-use console::arguments;
-use console::arguments::{Octet, Single};
+use console::arguments::Words;
 use console::faults::{Fault, Name};
-use text::{hexadecimal, line_words, numerals};
+use text::buffer::Text;
+use text::{hexadecimal, numerals};
 
-#[derive(Drop)]
-pub enum Area {
+#[derive(Clone, Copy)]
+enum Area {
     Record,
     Body,
 }
 
-// The word that names an area, and the index behind it.
-#[derive(Drop)]
-pub enum Operand {
-    Is(Area, usize),
-    Unknown,
+impl Area {
+    // What belongs to this one of both areas.
+    fn of<T: Drop>(self, records: T, bodies: T) -> T {
+        match self {
+            Area::Record => records,
+            Area::Body => bodies,
+        }
+    }
 }
 
 // The area that the next word names.
-fn named(line: &[u8], at: usize) -> Operand {
-    let w = line_words::next(line, at);
-    let from = w.from;
-    let to = w.to;
-    match line_words::place(b"record body", &line[from..to]) {
-        0 => Operand::Is(Area::Record, to),
-        1 => Operand::Is(Area::Body, to),
-        _ => Operand::Unknown,
+fn named(words: &mut Words) -> Result<Area, Fault> {
+    match words.next() {
+        Some(b"record") => Ok(Area::Record),
+        Some(b"body") => Ok(Area::Body),
+        _ => Err(Fault::Area),
     }
 }
 
-// So many bytes of one area, and as many of the other as before.
-fn lent_with(lent: Lent, area: Area, n: usize) -> Lent {
-    match area {
-        Area::Record => Lent {
-            records: n,
-            bodies: lent.bodies,
-        },
-        Area::Body => Lent {
-            records: lent.records,
-            bodies: n,
-        },
-    }
+// `lend`: later calls are lent so many bytes of an area, at most all, and as many of the other as before.
+pub fn lend(lent: Lent, words: &mut Words) -> Result<Answer, Fault> {
+    let area = named(words)?;
+    let n = words.last_number(Name::Length)? as usize;
+    let later = match area {
+        Area::Record => Lent { records: n, ..lent },
+        Area::Body => Lent { bodies: n, ..lent },
+    };
+    Ok(Answer::Lend(later))
 }
 
-// `lend`: later calls are lent so many bytes of an area, at most all.
-pub fn lend(lent: Lent, line: &[u8], at: usize) -> Answer {
-    match named(line, at) {
-        Operand::Is(area, behind) => match arguments::last_number(line, behind, Name::Length) {
-            Single::Is(n, _) => Answer::Lend(lent_with(lent, area, n as usize)),
-            Single::Wrong(fault) => Answer::Wrong(fault),
-        },
-        Operand::Unknown => Answer::Wrong(Fault::Area),
-    }
-}
-
-// One byte changed; an index beyond the area's end is a wrong line.
-fn store(area: &mut [u8], i: usize, byte: u8, out: &mut [u8]) -> Answer {
-    if i < area.len() {
-        area[i] = byte;
-        Answer::Line(numerals::put_unsigned(out, 0, 0))
-    } else {
-        Answer::Wrong(Fault::Beyond)
-    }
-}
-
-// The arguments of `poke` behind the area's name.
-fn poke_area(area: &mut [u8], line: &[u8], at: usize, out: &mut [u8]) -> Answer {
-    match arguments::number(line, at, Name::At) {
-        Single::Is(i, behind) => match arguments::last_byte(line, behind) {
-            Octet::Is(byte) => store(area, i as usize, byte, out),
-            Octet::Wrong(fault) => Answer::Wrong(fault),
-        },
-        Single::Wrong(fault) => Answer::Wrong(fault),
-    }
-}
-
-// `poke`: changes one byte of a whole area, however much of it is lent.
+// `poke`: changes one byte of a whole area, however much of it is lent; an index beyond the area's end is a wrong line.
 pub fn poke(
     records: &mut [u8],
     bodies: &mut [u8],
-    line: &[u8],
-    at: usize,
+    words: &mut Words,
     out: &mut [u8],
-) -> Answer {
-    match named(line, at) {
-        Operand::Is(area, behind) => match area {
-            Area::Record => poke_area(records, line, behind, out),
-            Area::Body => poke_area(bodies, line, behind, out),
-        },
-        Operand::Unknown => Answer::Wrong(Fault::Area),
+) -> Result<Answer, Fault> {
+    let area = named(words)?.of(records, bodies);
+    let i = words.number(Name::At)? as usize;
+    let byte = words.last_byte()?;
+    if area.len() <= i {
+        return Err(Fault::Beyond);
     }
+    area[i] = byte;
+    Ok(Answer::Line(numerals::put_numbers(out, &[0])))
 }
 
-// The bytes of an area as digits; `dump` takes no further word.
-fn dump_area(area: &[u8], line: &[u8], at: usize, out: &mut [u8]) -> Answer {
-    if line_words::ended(line, at) {
-        Answer::Line(hexadecimal::put(out, 0, area))
-    } else {
-        Answer::Wrong(Fault::TooManyWords)
-    }
-}
-
-// `dump`: the lent bytes of an area.
-pub fn dump(records: &[u8], bodies: &[u8], line: &[u8], at: usize, out: &mut [u8]) -> Answer {
-    match named(line, at) {
-        Operand::Is(area, behind) => match area {
-            Area::Record => dump_area(records, line, behind, out),
-            Area::Body => dump_area(bodies, line, behind, out),
-        },
-        Operand::Unknown => Answer::Wrong(Fault::Area),
-    }
+// `dump`: the lent bytes of an area as digits.
+pub fn dump(
+    records: &[u8],
+    bodies: &[u8],
+    words: &mut Words,
+    out: &mut [u8],
+) -> Result<usize, Fault> {
+    let area = named(words)?.of(records, bodies);
+    words.end()?;
+    let mut line = Text { out, end: 0 };
+    hexadecimal::put(&mut line, area);
+    Ok(line.end)
 }

@@ -1,7 +1,5 @@
 -- Bytes as hexadecimal digits, two each. Assumes nothing.
-use Rattle.std.specs.Prelude.{◌≡◌, ℕ, ◌+◌, ◌-◌, ◌*◌, ◌/◌, ◌%◌, Bool, true, false, cond, ◌&&◌, List, [], ◌∷◌, length, take, nat_le, nat_lt}
-use Rattle.text.specs.declared.hexadecimal.Digits.{Digits}
-use Rattle.text.specs.declared.hexadecimal.Digits.TheVariants.{Bytes, Malformed}
+use Rattle.std.specs.Prelude.{◌≡◌, ℕ, Option, Some, None, ◌+◌, ◌-◌, ◌*◌, ◌/◌, ◌%◌, Bool, true, false, cond, ◌&&◌, List, [], ◌∷◌, length, take, nat_le, nat_lt}
 
 -- the digit of a number below 16: `0` to `9`, then `a` to `f`
 unfoldable pub glyph_of : ℕ → ℕ
@@ -30,11 +28,11 @@ hex_bytes [] = []
 hex_bytes (a ∷ []) = []
 hex_bytes (a ∷ b ∷ w) = (nibble_of a * 16 + nibble_of b) ∷ hex_bytes w
 
-abbrev pub pick_digits : Bool → Digits → Digits → Digits
+abbrev pub pick_digits : Bool → Option ℕ → Option ℕ → Option ℕ
 pick_digits true a b = a
 pick_digits false a b = b
 
 -- a word of digits whose bytes fit is answered by their number, and they stand at the start of the buffer
-pub record Parsed (w before after : List ℕ) (r : Digits) : Type 0 where
-  pub answer : r ≡ pick_digits (pairs w && nat_le (length (hex_bytes w)) (length before)) (Bytes (length (hex_bytes w))) Malformed
-  pub bytes : r ≡ Bytes (length (hex_bytes w)) → take (length (hex_bytes w)) after ≡ hex_bytes w
+pub record Parsed (w before after : List ℕ) (r : Option ℕ) : Type 0 where
+  pub answer : r ≡ pick_digits (pairs w && nat_le (length (hex_bytes w)) (length before)) (Some (length (hex_bytes w))) None
+  pub bytes : r ≡ Some (length (hex_bytes w)) → take (length (hex_bytes w)) after ≡ hex_bytes w

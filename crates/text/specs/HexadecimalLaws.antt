@@ -1,11 +1,10 @@
 -- How digits are read and written pair by pair. Assumes nothing.
-use Rattle.std.specs.Prelude.{◌≡◌, ℕ, suc, ◌+◌, ◌*◌, ◌/◌, ◌%◌, ◌<◌, ◌≤◌, true, false, ◌&&◌, List, [], ◌∷◌, ◌++◌, length, take, drop, nat_lt, slice_index, slice_set, refl}
+use Rattle.std.specs.Prelude.{◌≡◌, ℕ, Some, None, suc, ◌+◌, ◌*◌, ◌/◌, ◌%◌, ◌<◌, ◌≤◌, true, false, ◌&&◌, List, [], ◌∷◌, ◌++◌, length, take, drop, nat_lt, slice_index, slice_set, refl}
 use Rattle.std.proofs.Common.{sym, ◌∙◌, append_assoc, append-nil, add-one, length-append, length-set, drop-cons, take-suc, take-suc-set, length-take-le}
 use Rattle.std.proofs.Math.Bool.{and-false}
 use native.Mathlib.Omega.{arith}
 use Rattle.std.proofs.Math.ListN.{drop_of_length-le}
 use borrow.Author.Tests.{lt-ltb, le-ltb, le-leb, lt-leb}
-use Rattle.text.specs.declared.hexadecimal.Digits.TheVariants.{Bytes, Malformed}
 use Rattle.text.specs.Hexadecimal.{glyph_of, spelled, nibble_of, pairs, hex_bytes, Parsed}
 
 -- ---- reading
@@ -21,7 +20,7 @@ pub record Reading (w before out : List ℕ) (i n : ℕ) : Type 0 where
 pub begun : (w before : List ℕ) → Reading w before before 0 0
 begun w before = record { within = omega arith; same_size = refl; room = omega arith; tested = refl; read = refl }
 
-refused : (w before after : List ℕ) → pairs w ≡ false → Parsed w before after Malformed
+refused : (w before after : List ℕ) → pairs w ≡ false → Parsed w before after None
 refused w before after e = record { answer = rw e; bytes = λ q. let z : ◌≡◌ {A = ℕ} 0 1 = cc in absurd (omega arith) }
 
 module _ (w before out : List ℕ) (i n : ℕ) (r : Reading w before out i n) where
@@ -41,13 +40,13 @@ module _ (w before out : List ℕ) (i n : ℕ) (r : Reading w before out i n) wh
     unfolding hex_bytes
     bytes-here = r.read ∙ rw (split, eh, el)
 
-    pub high-wrong : 15 < high → Parsed w before out Malformed
+    pub high-wrong : 15 < high → Parsed w before out None
     high-wrong t = refused w before out (pairs-here ∙ rw (le-ltb high 16 (omega arith)))
 
-    pub low-wrong : 15 < low → Parsed w before out Malformed
+    pub low-wrong : 15 < low → Parsed w before out None
     low-wrong t = refused w before out (pairs-here ∙ rw (le-ltb low 16 (omega arith), and-false))
 
-    pub full : length out ≤ n → Parsed w before out Malformed
+    pub full : length out ≤ n → Parsed w before out None
     full t =
         let l : length before < length (hex_bytes w) = rw (bytes-here, length-append, length-take-le n out (omega (arith, r.same_size, r.room))) (omega (arith, r.same_size)) in
         record { answer = rw (lt-leb (length (hex_bytes w)) (length before) l, and-false); bytes = λ q. let z : ◌≡◌ {A = ℕ} 0 1 = cc in absurd (omega arith) }
@@ -62,13 +61,13 @@ module _ (w before out : List ℕ) (i n : ℕ) (r : Reading w before out i n) wh
           read = bytes-here ∙ rw (add-one, take-suc-set out n (high * 16 + low) t, append_assoc);
         }
 
-  pub odd : length w ≤ i + 1 → i < length w → Parsed w before out Malformed
+  pub odd : length w ≤ i + 1 → i < length w → Parsed w before out None
   unfolding pairs
   odd h t =
       let e : suc i ≡ i + 1 = omega arith in
       refused w before out (r.tested ∙ rw (drop-cons w i 0 t, e, drop_of_length-le w h))
 
-  pub ended : length w ≤ i → Parsed w before out (Bytes n)
+  pub ended : length w ≤ i → Parsed w before out (Some n)
   unfolding pairs hex_bytes
   ended h =
       let e : hex_bytes w ≡ take n out = r.read ∙ rw (drop_of_length-le w h, append-nil) in

@@ -1,5 +1,5 @@
 -- The words of a line. Assumes nothing.
-use Rattle.std.specs.Prelude.{◌≡◌, ℕ, zero, suc, ◌-◌, ◌<◌, ◌≤◌, Bool, true, false, cond, ◌||◌, ◌⊎◌, List, [], ◌∷◌, length, take, drop, ◌==◌, ◌≢◌}
+use Rattle.std.specs.Prelude.{◌≡◌, ℕ, Option, Some, None, zero, suc, ◌-◌, ◌<◌, ◌≤◌, Bool, true, false, cond, ◌||◌, List, [], ◌∷◌, length, take, drop, ◌==◌, ◌≢◌}
 use Rattle.std.specs.Bool.{beq}
 use Rattle.text.specs.declared.line_words.Word.{Word}
 
@@ -36,7 +36,11 @@ unfoldable pub word : ℕ → List ℕ → List ℕ
 word zero l = first_word l
 word (suc k) l = word k (rest l)
 
--- r is the first place of w among the words of a line, or the first past the last
-pub record Placed (line w : List ℕ) (r : ℕ) : Type 0 where
-  pub first : (k : ℕ) → k < r → word k line ≢ w
-  pub here : (word r line ≡ w) ⊎ (word r line ≡ [])
+-- none of the first n words of a line is w
+abbrev pub NoneBefore : List ℕ → List ℕ → ℕ → Type 0
+NoneBefore line w n = (k : ℕ) → k < n → word k line ≢ w
+
+-- r is the first place of w among the words of a line; without one, no word up to the first place past the last is w
+abbrev pub Placed : List ℕ → List ℕ → Option ℕ → Type 0
+Placed line w (Some r) = NoneBefore line w r × (word r line ≡ w)
+Placed line w None = (n : ℕ) × NoneBefore line w n × (word n line ≡ [])

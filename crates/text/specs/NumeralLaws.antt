@@ -1,12 +1,15 @@
 -- The digits that `io::decimal` makes are the numeral; texts put one behind the other; how a line grows number by number. Assumes nothing.
-use Rattle.std.specs.Prelude.{◌≡◌, ℕ, zero, suc, ◌+◌, ◌-◌, ◌/◌, ◌%◌, ◌^◌, ◌<◌, ◌≤◌, true, false, List, [], ◌∷◌, ◌++◌, length, take, drop, ℤ, pos, negsuc, int_lt, slice_index_or, slice_range, unsigned_abs, refl}
-use Rattle.std.proofs.Common.{sym, ◌∙◌, append_assoc, append-nil, pow-suc, arith, length-take-le, take_at, take-suc, take_all, ltb-true, lt-ltb, le-ltb, le-leb}
+use Rattle.std.specs.Prelude.{◌≡◌, ℕ, Bool, nat_le, zero, suc, ◌+◌, ◌-◌, ◌/◌, ◌%◌, ◌^◌, ◌<◌, ◌≤◌, true, false, List, [], ◌∷◌, ◌++◌, length, take, drop, ℤ, pos, negsuc, int_lt, slice_index_or, slice_range, unsigned_abs, refl}
+use Rattle.std.proofs.Common.{sym, add-one, ◌∙◌, append_assoc, append-nil, pow-suc, arith, length-take-le, take_at, take-suc, take_all, ltb-true, lt-ltb, le-ltb, le-leb}
 use Rattle.std.proofs.Math.Path.{ap}
 use Rattle.std.proofs.Math.ListN.{length-append}
 use Rattle.cells.specs.Cells.{splice}
 use Rattle.io.specs.Digits.{last_digits, IsDigitCount}
-use Rattle.text.specs.Buffer.{Put}
-use Rattle.text.specs.Numerals.{spelt, unsigned_numeral, numeral, spaced, line, Behind, Line}
+use Rattle.cells.specs.Splice.{length-splice}
+use Rattle.std.proofs.lemmas.Bool.{leb-true}
+use Rattle.text.specs.declared.buffer.Text.{Text}
+use Rattle.text.specs.Buffer.{Put, Puts}
+use Rattle.text.specs.Numerals.{spelt, unsigned_numeral, numeral, spaced, line, Behind, Follows, Line}
 
 -- ---- digits
 
@@ -67,9 +70,28 @@ module _ (before : List ℕ) (at : ℕ) where
             rw (q.bytes (omega arith), p.bytes (omega arith), append_assoc);
       }
 
+-- a text that was put changes no buffer's size
+pub put-size : (before : List ℕ) (at : ℕ) (text after : List ℕ) (r : ℕ) → Put before at text after r → length after ≡ length before
+put-size before at text after r p = go (nat_le (at + length text) (length before)) refl
+  where
+    go : (b : Bool) → nat_le (at + length text) (length before) ≡ b → length after ≡ length before
+    go true e = rw (rw e at p.bytes) (length-splice before at text (leb-true _ _ e))
+    go false e = rw (rw e at p.bytes)
+
+-- the same for lines that hold their buffer
+pub puts-follows : {a b : Text} {text : List ℕ} → Puts a text b → Follows a text b
+puts-follows p = record { same_buffer = p.same_buffer; same_size = put-size _ _ _ _ _ p.put; behind = put-behind _ _ _ _ _ p.put }
+
+pub follows-both : {a b c : Text} {text more : List ℕ} → Follows a text b → Follows b more c → Follows a (text ++ more) c
+follows-both p q =
+    record { same_buffer = q.same_buffer ∙ p.same_buffer; same_size = q.same_size ∙ p.same_size; behind = behind-both _ _ _ _ _ _ _ _ p.same_size p.behind q.behind }
+
 -- no text
 pub nothing-behind : (before : List ℕ) (at : ℕ) → Behind before at [] before at
 nothing-behind before at = record { end = λ h. omega arith; bytes = λ h. sym (append-nil (take at before)) }
+
+pub follows-nothing : (a : Text) → Follows a [] a
+follows-nothing a = record { same_buffer = refl; same_size = refl; behind = nothing-behind _ _ }
 
 -- ---- numerals
 
@@ -89,6 +111,10 @@ spaced-more : (xs : List ℤ) (z : ℤ) → spaced (xs ++ (z ∷ [])) ≡ spaced
 unfolding spaced
 spaced-more [] z = ap (32 ∷◌) (append-nil (numeral z))
 spaced-more (x ∷ xs) z = ap (32 ∷◌) (rw (spaced-more xs z, append_assoc))
+
+-- the numbers before index k, and the one at k
+pub spaced-next : (xs : List ℤ) (k : ℕ) (d : ℤ) → k < length xs → spaced (take (k + 1) xs) ≡ spaced (take k xs) ++ (32 ∷ numeral (slice_index_or xs k d))
+spaced-next xs k d h = rw (add-one, take-suc xs k d) (spaced-more (take k xs) (slice_index_or xs k d))
 
 -- the numbers before index i, the first aside, and the one at i
 pub next-number : (zs : List ℤ) (i : ℕ) (d : ℤ) → 1 ≤ i → i < length zs → spaced (take (i + 1 - 1) (drop 1 zs)) ≡ spaced (slice_range zs 1 i) ++ (32 ∷ numeral (slice_index_or zs i d))

@@ -1,5 +1,6 @@
 -- Numbers as they are written: decimal numerals, and lines of them. Assumes nothing.
 use Rattle.std.specs.Prelude.{◌≡◌, ℕ, zero, suc, ◌+◌, ◌/◌, ◌%◌, ◌≤◌, cond, List, [], ◌∷◌, ◌++◌, length, take, ℤ, pos, negsuc, nat_lt}
+use Rattle.text.specs.declared.buffer.Text.{Text}
 
 -- the decimal digits of n, at most f of them
 unfoldable pub spelt : ℕ → ℕ → List ℕ
@@ -29,6 +30,12 @@ line (z ∷ zs) = numeral z ++ spaced zs
 pub record Behind (before : List ℕ) (at : ℕ) (text after : List ℕ) (r : ℕ) : Type 0 where
   pub end : at + length text ≤ length before → r ≡ at + length text
   pub bytes : at + length text ≤ length before → take r after ≡ take at before ++ text
+
+-- the same for a line that holds its buffer
+pub record Follows (before : Text) (text : List ℕ) (after : Text) : Type 0 where
+  pub same_buffer : after.out.ghost_name ≡ before.out.ghost_name
+  pub same_size : length after.out.now ≡ length before.out.now
+  pub behind : Behind before.out.now before.end text after.out.now after.end
 
 -- a whole line, from the buffer's start on
 abbrev pub Line : List ℕ → List ℤ → List ℕ → ℕ → Type 0

@@ -1,9 +1,5 @@
 -- Words, numbers and bytes as text, computed; a byte is its ASCII code. Assumes nothing.
-use Rattle.std.specs.Prelude.{◌≡◌, ℕ, Bool, true, false, List, [], ◌∷◌, ◌++◌, map, ℤ, pos, negsuc, refl}
-use Rattle.text.specs.declared.numbers.Number.{Number}
-use Rattle.text.specs.declared.numbers.Number as number
-use Rattle.text.specs.declared.numbers.Integer.{Integer}
-use Rattle.text.specs.declared.numbers.Integer as integer
+use Rattle.std.specs.Prelude.{◌≡◌, ℕ, Option, Some, None, Bool, true, false, List, [], ◌∷◌, ◌++◌, map, ℤ, pos, negsuc, refl}
 use Rattle.text.specs.LineWords.{is_blank, run, first_word}
 use Rattle.text.specs.Numbers.{digit_of, digits, decimal, read_on, unsigned_of, negative_of, has_minus, signed_of}
 use Rattle.text.specs.Numerals.{spelt, unsigned_numeral, numeral, spaced, line}
@@ -22,15 +18,15 @@ unfoldable pub front : List ℕ
 front = 57 ∷ 50 ∷ 50 ∷ 51 ∷ 51 ∷ 55 ∷ 50 ∷ 48 ∷ 51 ∷ 54 ∷ 56 ∷ 53 ∷ 52 ∷ 55 ∷ 55 ∷ 53 ∷ 56 ∷ 48 ∷ []
 
 -- words, and what they say where 255 is the most
-unfoldable pub unsigneds : List (List ℕ × Number)
+unfoldable pub unsigneds : List (List ℕ × Option ℕ)
 unsigneds =
-    (50 ∷ 53 ∷ 53 ∷ [], number.TheVariants.Value 255)
-    ∷ (50 ∷ 53 ∷ 54 ∷ [], number.TheVariants.Malformed)  -- 256
-    ∷ (48 ∷ 50 ∷ 53 ∷ 53 ∷ [], number.TheVariants.Value 255)  -- 0255
-    ∷ ([], number.TheVariants.Malformed)
-    ∷ (50 ∷ 97 ∷ [], number.TheVariants.Malformed)  -- 2a
-    ∷ (50 ∷ 58 ∷ [], number.TheVariants.Malformed)  -- the bytes beside the digits
-    ∷ (50 ∷ 47 ∷ [], number.TheVariants.Malformed)
+    (50 ∷ 53 ∷ 53 ∷ [], Some 255)
+    ∷ (50 ∷ 53 ∷ 54 ∷ [], None)  -- 256
+    ∷ (48 ∷ 50 ∷ 53 ∷ 53 ∷ [], Some 255)  -- 0255
+    ∷ ([], None)
+    ∷ (50 ∷ 97 ∷ [], None)  -- 2a
+    ∷ (50 ∷ 58 ∷ [], None)  -- the bytes beside the digits
+    ∷ (50 ∷ 47 ∷ [], None)
     ∷ []
 
 -- numbers, and how they are written: these words are also read as them
@@ -47,15 +43,15 @@ numerals =
     ∷ []
 
 -- other words, and what they say
-unfoldable pub signeds : List (List ℕ × Integer)
+unfoldable pub signeds : List (List ℕ × Option ℤ)
 signeds =
-    (45 ∷ 48 ∷ [], integer.TheVariants.Value (pos 0))  -- -0
-    ∷ (45 ∷ 48 ∷ 49 ∷ 50 ∷ [], integer.TheVariants.Value (negsuc 11))  -- -012
-    ∷ (45 ∷ [], integer.TheVariants.Malformed)
-    ∷ (45 ∷ 45 ∷ 49 ∷ [], integer.TheVariants.Malformed)  -- --1
-    ∷ (43 ∷ 49 ∷ [], integer.TheVariants.Malformed)  -- +1
-    ∷ (front ++ (56 ∷ []), integer.TheVariants.Malformed)  -- just beyond the ends
-    ∷ (45 ∷ (front ++ (57 ∷ [])), integer.TheVariants.Malformed)
+    (45 ∷ 48 ∷ [], Some (pos 0))  -- -0
+    ∷ (45 ∷ 48 ∷ 49 ∷ 50 ∷ [], Some (negsuc 11))  -- -012
+    ∷ (45 ∷ [], None)
+    ∷ (45 ∷ 45 ∷ 49 ∷ [], None)  -- --1
+    ∷ (43 ∷ 49 ∷ [], None)  -- +1
+    ∷ (front ++ (56 ∷ []), None)  -- just beyond the ends
+    ∷ (45 ∷ (front ++ (57 ∷ [])), None)
     ∷ []
 
 -- lines of numbers
@@ -89,7 +85,7 @@ unfolding firsts first_word run is_blank
 words_computed = refl
 
 pub read : (map (λ e. unsigned_of 255 e.0) unsigneds ≡ map (λ e. e.1) unsigneds)
-    × (map (λ e. signed_of e.1) numerals ≡ map (λ e. integer.TheVariants.Value e.0) numerals)
+    × (map (λ e. signed_of e.1) numerals ≡ map (λ e. Some e.0) numerals)
     × (map (λ e. signed_of e.0) signeds ≡ map (λ e. e.1) signeds)
 unfolding unsigneds numerals signeds front signed_of negative_of has_minus unsigned_of read_on digits decimal digit_of
 read = (refl, refl, refl)

@@ -1,13 +1,14 @@
 -- How a run of bytes and a word are found. Assumes nothing.
-use Rattle.std.specs.Prelude.{◌≡◌, ℕ, suc, ◌+◌, ◌-◌, ◌<◌, ◌≤◌, Bool, true, false, cond, not, List, [], length, take, drop, ◌≢◌, slice_index}
+use Rattle.std.specs.Prelude.{◌≡◌, ℕ, min, nat_le, refl, Some, None, suc, ◌+◌, ◌-◌, ◌<◌, ◌≤◌, Bool, true, false, cond, not, List, [], length, take, drop, ◌≢◌, slice_index}
 use Rattle.std.proofs.Math.Path.{sym}
-use Rattle.std.proofs.Common.{ap, ◌∙◌, inl, inr, add-zero, zero-add, drop_of_length-le, drop-drop}
+use Rattle.std.proofs.Math.Nat.{min-eq_left, min-eq_right}
+use Rattle.std.proofs.Common.{ap, ◌∙◌, add-zero, zero-add, drop_of_length-le, drop-drop}
 use Rattle.std.specs.Bool.{beq}
 use Rattle.std.proofs.Math.Numerals.{add-one}
 use native.Mathlib.Omega.{arith}
 use Rattle.std.proofs.Math.Seq.{drop-length, drop-cons}
 use borrow.Author.Count.{below_more}
-use Rattle.std.proofs.lemmas.Bool.{not-true, not-false}
+use Rattle.std.proofs.lemmas.Bool.{not-true, not-false, leb-true, leb-false}
 use Rattle.text.specs.declared.line_words.Word.{Word}
 use Rattle.text.specs.LineWords.{is_blank, run, first_word, rest, bytes, Next, word, Placed}
 
@@ -30,6 +31,13 @@ ends blank i l h = rw (drop_of_length-le l h)
 -- an index past the end is as good as the end
 pub at-end : (at : ℕ) (l : List ℕ) → length l ≤ at → drop (length l) l ≡ drop at l
 at-end at l h = drop-length l ∙ sym (drop_of_length-le l h)
+
+pub from-least : (at : ℕ) (l : List ℕ) → drop (min at (length l)) l ≡ drop at l
+from-least at l = least (nat_le at (length l)) refl
+  where
+    least : (b : Bool) → nat_le at (length l) ≡ b → drop (min at (length l)) l ≡ drop at l
+    least true e = ap (λ k. drop k l) (min-eq_left (leb-true _ _ e))
+    least false e = let h = leb-false _ _ e in let k : length l ≤ at = omega arith in ap (λ k. drop k l) (min-eq_right k) ∙ at-end at l k
 
 -- a word from index from up to index to, found from index start on
 module _ (l : List ℕ) (at start from to : ℕ) (e : drop start l ≡ drop at l) (f : from ≡ start + run true (drop start l)) (t : to ≡ from + run false (drop from l)) where
@@ -63,11 +71,11 @@ module _ (l w : List ℕ) (at k : ℕ) (p : Passed l w at k) where
   unfolding word
   word-here = rw (add-zero k) at (p.next 0)
 
-  pub found : (x : Word) → Next l at x → bytes l x ≡ w → Placed l w k
-  found x n e = record { first = p.others; here = inl (word-here ∙ sym n.is ∙ e) }
+  pub found : (x : Word) → Next l at x → bytes l x ≡ w → Placed l w (Some k)
+  found x n e = (p.others, word-here ∙ sym n.is ∙ e)
 
-  pub none_left : first_word (drop at l) ≡ [] → Placed l w k
-  none_left e = record { first = p.others; here = inr (word-here ∙ e) }
+  pub none_left : first_word (drop at l) ≡ [] → Placed l w None
+  none_left e = (k, p.others, word-here ∙ e)
 
   pub pass : (x : Word) → Next l at x → (bytes l x ≢ w) → Passed l w x.to (k + 1)
   unfolding word

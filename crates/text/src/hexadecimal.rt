@@ -1,63 +1,41 @@
 // Bytes as text: two hexadecimal digits each, of either case where they are read, small where they are written.
-ghost use Rattle.std.specs.Prelude.{◌≡◌, ◌*◌, ◌<◌, length};
-ghost use Rattle.text.specs.Buffer.{Put};
+ghost use Rattle.std.specs.Prelude.{◌≡◌, ◌*◌, ◌<◌, MatchOption, length};
+ghost use Rattle.text.specs.Buffer.{Puts};
 ghost use Rattle.text.specs.Hexadecimal.{nibble_of, glyph_of, spelled, Parsed};
 
-#[derive(Drop)]
-pub enum Digits {
-    // so many bytes
-    Bytes(usize),
-    Malformed,
-}
+use crate::buffer::Text;
 
-// What a byte says as a digit; 16 where it is none.
+// What a byte says as a digit, if it is one.
 #[tactic(auto, unfolding(crate::specs::Hexadecimal::nibble_of))]
-fn nibble(byte: u8) -> u8
-    ensures { result ≡ nibble_of byte }
+fn nibble(byte: u8) -> Option<u8>
+    ensures { MatchOption result (nibble_of byte ≡ 16) (λ d. (d ≡ nibble_of byte) × (d < 16)) }
 {
-    if byte < b'0' {
-        16
-    } else if byte <= b'9' {
-        byte - b'0'
-    } else if byte < b'A' {
-        16
-    } else if byte <= b'F' {
-        byte - b'A' + 10
-    } else if byte < b'a' {
-        16
-    } else if byte <= b'f' {
-        byte - b'a' + 10
-    } else {
-        16
+    match byte {
+        b'0'..=b'9' => Some(byte - b'0'),
+        b'A'..=b'F' => Some(byte - b'A' + 10),
+        b'a'..=b'f' => Some(byte - b'a' + 10),
+        _ => None,
     }
 }
 
-// The bytes that a word of digits says, put at the start of out.
-pub fn parse(word: &[u8], out: &mut [u8]) -> Digits
+// The bytes that a word of digits says, put at the start of out, and how many they are.
+pub fn parse(word: &[u8], out: &mut [u8]) -> Option<usize>
     ensures { Parsed word.now out.old out.new result }
 {
-    let mut i = 0;
-    let mut n = 0;
-    while i + 1 < word.len() {
-        let high = nibble(word[i]);
-        let low = nibble(word[i + 1]);
-        if 15 < high {
-            return Digits::Malformed;
+    let pairs = word.len() / 2;
+    for i in 0..pairs {
+        let high = nibble(word[2 * i])?;
+        let low = nibble(word[2 * i + 1])?;
+        if out.len() <= i {
+            return None;
         }
-        if 15 < low {
-            return Digits::Malformed;
-        }
-        if out.len() <= n {
-            return Digits::Malformed;
-        }
-        out[n] = high * 16 + low;
-        n += 1;
-        i += 2;
+        out[i] = high * 16 + low;
     }
-    if i < word.len() {
-        return Digits::Malformed;
+    if word.len() % 2 == 0 {
+        Some(pairs)
+    } else {
+        None
     }
-    Digits::Bytes(n)
 }
 
 // The digit of a number below 16.
@@ -74,26 +52,22 @@ fn spell(bytes: &[u8], out: &mut [u8])
     requires { length out.old ≡ 2 * length bytes.now }
     ensures { out.new ≡ spelled bytes.now }
 {
-    let mut i = 0;
-    while i < bytes.len() {
-        let b = bytes[i];
+    for (i, b) in bytes.iter().enumerate() {
         out[2 * i] = glyph(b / 16);
         out[2 * i + 1] = glyph(b % 16);
-        i += 1;
     }
 }
 
-// Puts the digits of bytes into out from index at on and answers the index behind them.
-pub fn put(out: &mut [u8], at: usize, bytes: &[u8]) -> usize
-    ensures { Put out.old at (spelled bytes.now) out.new result }
+// Puts the digits of bytes into a line.
+pub fn put(line: &mut Text, bytes: &[u8])
+    ensures { Puts line.old (spelled bytes.now) line.new }
 {
-    if out.len() < at {
-        return at;
-    }
-    if (out.len() - at) / 2 < bytes.len() {
-        return at;
+    let at = line.end;
+    let out = &mut *line.out;
+    if out.len() < at || (out.len() - at) / 2 < bytes.len() {
+        return;
     }
     let end = at + 2 * bytes.len();
     spell(bytes, &mut out[at..end]);
-    end
+    line.end = end;
 }

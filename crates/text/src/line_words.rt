@@ -22,22 +22,19 @@ fn run_end(line: &[u8], at: usize, blank: bool) -> usize
     requires { at ≤ length line.now }
     ensures { (result ≡ at + run blank (drop at line.now)) × (at ≤ result) × (result ≤ length line.now) }
 {
-    let mut i = at;
-    while i < line.len() {
+    for i in at..line.len() {
         if is_blank(line[i]) != blank {
             return i;
         }
-        i += 1;
     }
-    i
+    line.len()
 }
 
 // The first word from index at on; an empty one at the line's end where there is none.
 pub fn next(line: &[u8], at: usize) -> Word
     ensures { Next line.now at result }
 {
-    let n = line.len();
-    let start = if at < n { at } else { n };
+    let start = at.min(line.len());
     let from = run_end(line, start, true);
     let to = run_end(line, from, false);
     Word { from, to }
@@ -49,24 +46,20 @@ pub fn ended(line: &[u8], at: usize) -> bool {
     w.from == w.to
 }
 
-// The place of a word among the words of a line, from 0 on; the number of words where it is none of them.
-pub fn place(line: &[u8], word: &[u8]) -> usize
+// The place of a word among the words of a line, from 0 on, if it is one of them.
+pub fn place(line: &[u8], word: &[u8]) -> Option<usize>
     ensures { Placed line.now word.now result }
 {
     let mut at = 0;
-    let mut k = 0;
-    while at < line.len() {
+    for k in 0..line.len() {
         let w = next(line, at);
-        let from = w.from;
-        let to = w.to;
-        if from == to {
-            return k;
+        if w.from == w.to {
+            return None;
         }
-        if &line[from..to] == word {
-            return k;
+        if &line[w.from..w.to] == word {
+            return Some(k);
         }
-        at = to;
-        k += 1;
+        at = w.to;
     }
-    k
+    None
 }

@@ -23,7 +23,7 @@ module _ (before after : List ℕ) (n r sent : ℕ) (p : Put before n (10 ∷ []
 
 pub returns-clause-ok : goal.returns-clause-ok
 returns-clause-ok g c h =
-    let e = c.front.ensures ∙ (put-behind _ _ _ _ _ c.put-end.ensures).bytes (omega arith) in
+    let e = c.front.ensures ∙ (put-behind _ _ _ _ _ c.put.ensures.put).bytes (omega arith) in
     rw (← e) c.write_all.ensures.ok
 
 pub returns-clause-err : goal.returns-clause-err
@@ -31,5 +31,5 @@ returns-clause-err g c =
     let before = c.args.out.now in
     on_err_weaker c.write_all.result
     (λ x.
-    let s = start before c.put-end.new.out c.args.n c.put-end.result x.0 c.put-end.ensures (rw c.front.ensures at x.1) _ refl in
+    let s = start before c.put.new.self.out.now c.args.n c.put.new.self.end x.0 c.put.ensures.put (rw c.front.ensures at x.1) _ refl in
     (x.0, s.0, rw (c.front.ensures, s.1) at x.2)) c.write_all.ensures.err

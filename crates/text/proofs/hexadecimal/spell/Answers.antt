@@ -7,12 +7,12 @@ use Rattle.text.proofs.hexadecimal.spell.Goals as goal
 
 pub loop-i-init : goal.loop-i-init
 unfolding spelled
-loop-i-init c = (omega arith, omega arith, refl)
+loop-i-init c = record { same_size = omega arith; spelt = refl }
 
 pub loop-i-preserved : goal.loop-i-preserved
 loop-i-preserved c =
-    let l = c.loop-i in (
-      omega arith,
-      simp length-set l.invariant.1,
-      spelled-more _ l.out l.i _ _ (omega arith) l.invariant.1 l.invariant.2 c.glyph.ensures c.glyph-in-loop-i.ensures,
-    )
+    let l = c.loop-i in
+    record {
+      same_size = simp length-set l.invariant.same_size;
+      spelt = spelled-more _ l.out l.i _ _ (omega arith) l.invariant.same_size l.invariant.spelt c.glyph.ensures c.glyph-in-loop-i.ensures;
+    }

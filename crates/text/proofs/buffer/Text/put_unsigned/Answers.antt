@@ -2,7 +2,7 @@
 use Rattle.std.proofs.Common.{◌∙◌, arith}
 use Rattle.text.specs.Numerals.{unsigned_numeral}
 use Rattle.text.specs.NumeralLaws.{digits-spelt}
-use Rattle.text.proofs.numerals.put_unsigned.Goals as goal
+use Rattle.text.proofs.buffer.Text.put_unsigned.Goals as goal
 
 pub returns : goal.returns
 unfolding unsigned_numeral

@@ -1,7 +1,0 @@
--- A number that was read fits a byte.
-use Rattle.std.proofs.Common.{arith}
-use Rattle.text.specs.NumberLaws.{at_most}
-use Rattle.console.proofs.arguments.last_byte.Goals as goal
-
-pub overflow_cast-result : goal.overflow_cast-result
-overflow_cast-result c = omega (arith, at_most 255 _ _ c.in-Value.ensures)
