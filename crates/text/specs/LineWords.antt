@@ -1,5 +1,5 @@
 -- The words of a line. Assumes nothing.
-use Rattle.std.specs.Prelude.{◌≡◌, ℕ, Option, Some, None, zero, suc, ◌-◌, ◌<◌, ◌≤◌, Bool, true, false, cond, ◌||◌, List, [], ◌∷◌, length, take, drop, ◌==◌, ◌≢◌}
+use Rattle.std.specs.Prelude.{◌≡◌, ℕ, Result, Ok, Err, zero, suc, ◌-◌, ◌<◌, ◌≤◌, Bool, true, false, cond, ◌||◌, List, [], ◌∷◌, length, take, drop, ◌==◌, ◌≢◌}
 use Rattle.std.specs.Bool.{beq}
 use Rattle.text.specs.declared.line_words.Word.{Word}
 
@@ -40,7 +40,7 @@ word (suc k) l = word k (rest l)
 abbrev pub NoneBefore : List ℕ → List ℕ → ℕ → Type 0
 NoneBefore line w n = (k : ℕ) → k < n → word k line ≢ w
 
--- r is the first place of w among the words of a line; without one, no word up to the first place past the last is w
-abbrev pub Placed : List ℕ → List ℕ → Option ℕ → Type 0
-Placed line w (Some r) = NoneBefore line w r × (word r line ≡ w)
-Placed line w None = (n : ℕ) × NoneBefore line w n × (word n line ≡ [])
+-- the first place of w among the words of a line; where it is none of them, the first place past the last
+abbrev pub Placed : List ℕ → List ℕ → Result ℕ ℕ → Type 0
+Placed line w (Ok r) = NoneBefore line w r × (word r line ≡ w)
+Placed line w (Err n) = NoneBefore line w n × (word n line ≡ [])

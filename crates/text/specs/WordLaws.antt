@@ -1,5 +1,5 @@
 -- How a run of bytes and a word are found. Assumes nothing.
-use Rattle.std.specs.Prelude.{◌≡◌, ℕ, min, nat_le, refl, Some, None, suc, ◌+◌, ◌-◌, ◌<◌, ◌≤◌, Bool, true, false, cond, not, List, [], length, take, drop, ◌≢◌, slice_index}
+use Rattle.std.specs.Prelude.{◌≡◌, ℕ, min, nat_le, refl, Ok, Err, suc, ◌+◌, ◌-◌, ◌<◌, ◌≤◌, Bool, true, false, cond, not, List, [], length, take, drop, ◌≢◌, slice_index}
 use Rattle.std.proofs.Math.Path.{sym}
 use Rattle.std.proofs.Math.Nat.{min-eq_left, min-eq_right}
 use Rattle.std.proofs.Common.{ap, ◌∙◌, add-zero, zero-add, drop_of_length-le, drop-drop}
@@ -71,11 +71,11 @@ module _ (l w : List ℕ) (at k : ℕ) (p : Passed l w at k) where
   unfolding word
   word-here = rw (add-zero k) at (p.next 0)
 
-  pub found : (x : Word) → Next l at x → bytes l x ≡ w → Placed l w (Some k)
+  pub found : (x : Word) → Next l at x → bytes l x ≡ w → Placed l w (Ok k)
   found x n e = (p.others, word-here ∙ sym n.is ∙ e)
 
-  pub none_left : first_word (drop at l) ≡ [] → Placed l w None
-  none_left e = (k, p.others, word-here ∙ e)
+  pub none_left : first_word (drop at l) ≡ [] → Placed l w (Err k)
+  none_left e = (p.others, word-here ∙ e)
 
   pub pass : (x : Word) → Next l at x → (bytes l x ≢ w) → Passed l w x.to (k + 1)
   unfolding word

@@ -46,20 +46,20 @@ pub fn ended(line: &[u8], at: usize) -> bool {
     w.from == w.to
 }
 
-// The place of a word among the words of a line, from 0 on, if it is one of them.
-pub fn place(line: &[u8], word: &[u8]) -> Option<usize>
+// The place of a word among the words of a line, from 0 on; the number of words where it is none of them.
+pub fn place(line: &[u8], word: &[u8]) -> Result<usize, usize>
     ensures { Placed line.now word.now result }
 {
     let mut at = 0;
     for k in 0..line.len() {
         let w = next(line, at);
         if w.from == w.to {
-            return None;
+            return Err(k);
         }
         if &line[w.from..w.to] == word {
-            return Some(k);
+            return Ok(k);
         }
         at = w.to;
     }
-    None
+    Err(line.len())
 }

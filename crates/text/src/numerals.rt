@@ -4,6 +4,7 @@ ghost use Rattle.text.specs.Numerals.{unsigned_numeral, numeral, Follows, Line};
 ghost use Rattle.std.specs.Prelude.{◌∷◌};
 
 use crate::buffer::Text;
+use crate::numbers;
 
 impl Text<'_> {
     // A number of 64 bits.
@@ -19,7 +20,7 @@ impl Text<'_> {
     pub fn put_signed(&mut self, v: i64)
         ensures { Follows self.old (numeral v) self.new }
     {
-        let distance = v.unsigned_abs();
+        let distance = numbers::magnitude(v);
         if v < 0 {
             self.put(b"-");
         }

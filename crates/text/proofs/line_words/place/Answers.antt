@@ -1,5 +1,5 @@
 -- The word at hand is the one, or one that is passed: it is not empty, and so leads on.
-use Rattle.std.proofs.Common.{sym, ◌∙◌, arith}
+use Rattle.std.proofs.Common.{◌≡◌, length, sym, ◌∙◌, arith}
 use Rattle.std.proofs.lemmas.Bool.Decides.{Decides-eqb}
 use Rattle.std.proofs.lemmas.Slice.Eq.{slice_eq-Decides}
 use Rattle.text.specs.WordLaws.{found, none_left, pass, first-of_none, first-empty}
@@ -24,4 +24,6 @@ loop-k-preserved c =
     }
 
 pub returns : goal.returns
-returns c = none_left _ _ _ _ c.loop-k.invariant.passed (first-of_none c.args.line.now c.loop-k.at (omega arith))
+returns c =
+    let all : c.loop-k.k ≡ length c.args.line.now = omega arith in
+    rw all at (none_left _ _ _ _ c.loop-k.invariant.passed (first-of_none c.args.line.now c.loop-k.at (omega arith)))

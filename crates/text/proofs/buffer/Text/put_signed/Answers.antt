@@ -7,7 +7,7 @@ use Rattle.text.proofs.buffer.Text.put_signed.Goals.{then-v-lt0, else-v-lt0}
 
 pub returns : goal.returns
 returns c =
-    let distance = rw (to_z-of_z c.ranges.v) at c.unsigned_abs-distance.ensures.value in
+    let distance = rw (to_z-of_z c.ranges.v) at c.magnitude-distance.ensures in
     elim c.if-v-lt0.branch [
       | then-v-lt0 w ↦
           let spelt = ap (λ (n : ℕ). 45 ∷ unsigned_numeral n) distance ∙ numeral-below c.args.v (rw (to_z-of_z c.ranges.v) at w.if-v-lt0.true) in
