@@ -22,10 +22,11 @@ pub enum ValueList {
 
 // Does a word end a list? The next list's name does; the last list has none behind it.
 fn ends(list: List, word: &[u8]) -> bool {
-    matches!(
-        (list, word),
-        (List::Values, b"lower") | (List::Lower, b"upper")
-    )
+    match list {
+        List::Values => line_words::place(b"lower", word).is_ok(),
+        List::Lower => line_words::place(b"upper", word).is_ok(),
+        List::Upper => false,
+    }
 }
 
 impl<'a> Words<'a> {

@@ -3,7 +3,7 @@ use crate::commands::{Answer, Lent};
 use console::arguments::Words;
 use console::faults::{Fault, Name};
 use text::buffer::Text;
-use text::{hexadecimal, numerals};
+use text::{hexadecimal, line_words, numerals};
 
 #[derive(Clone, Copy)]
 enum Area {
@@ -23,9 +23,10 @@ impl Area {
 
 // The area that the next word names.
 fn named(words: &mut Words) -> Result<Area, Fault> {
-    match words.next() {
-        Some(b"record") => Ok(Area::Record),
-        Some(b"body") => Ok(Area::Body),
+    let name = words.next().ok_or(Fault::Area)?;
+    match line_words::place(b"record body", name) {
+        Ok(0) => Ok(Area::Record),
+        Ok(1) => Ok(Area::Body),
         _ => Err(Fault::Area),
     }
 }
