@@ -1,5 +1,5 @@
 -- The tests of a final delivery: what they say of whichever replica the record area holds. Assumes nothing.
-use Rattle.std.specs.Prelude.{◌≡◌, refl, Bool, true, false, not, List, [], ◌∷◌, ℕ, zero, suc, ◌≤◌, ◌<◌, leb, ltb, length, get_or, Option, Some, Result, Ok, Err}
+use Rattle.std.specs.Prelude.{◌≡◌, refl, Bool, true, false, not, List, [], ◌∷◌, ℕ, zero, suc, ◌≤◌, ◌<◌, leb, ltb, length, get_or, Some, Result, Ok, Err}
 use Rattle.std.specs.Option.{ok_or}
 use Rattle.std.proofs.Common.{sym, ap, ◌∙◌, subst, arith, le-leb, lt-ltb, le-ltb}
 use Rattle.std.proofs.Math.Option.{none}
@@ -23,6 +23,7 @@ use Rattle.layout.specs.Act.{asked}
 use Rattle.layout.proofs.Areas.{act-refused}
 use Rattle.layout.specs.Contract.{Met, Passed}
 use Rattle.layout.proofs.ContractLaws.{passed}
+use Rattle.queue.specs.declared.Place.{Place}
 use Rattle.queue.specs.Place.{Located, Spent, found-there, found-nowhere}
 
 -- areas that pass the shape check
@@ -114,15 +115,15 @@ module _ {l : Limits} {b : List ℕ} {u : Replica} (o : Sane l) (h : Holds l b u
     pub is-fresh : r ≡ false → Fresh u c s
     is-fresh m = record { client = k; fresh = sym (e.test u h) ∙ m }
 
-  -- r is where it was found, if it was
-  module _ {c s : ℕ} {r : Option OptimisticPosition} (f : Fresh u c s) (e : Located l b c s r) where
-    pub is-missing : {k : Refusal} → Err k ≡ ok_or r refusals.TheVariants.NotPending → Turned l u c s (number k)
+  -- r is the place that was found, if it was
+  module _ {c s : ℕ} {r : Place} (f : Fresh u c s) (e : Located l b c s r) where
+    pub is-missing : {k : Refusal} → Err k ≡ ok_or r.position refusals.TheVariants.NotPending → Turned l u c s (number k)
     is-missing m =
         let q = found-nowhere e m in
         let behind = le-ltb (index (has_key c s) u.pending) (length u.pending) (omega (arith, q.1 u h)) in
         rw q.0 (record { number = tests l u c s false false false _ (lt-leb clients c f.client) f.fresh behind refl; some = omega arith })
 
-    pub is-standing : {p : OptimisticPosition} → r ≡ Some p → Standing u c s p.0
+    pub is-standing : {p : OptimisticPosition} → r.position ≡ Some p → Standing u c s p.0
     is-standing m = let q = found-there e m u h in record { fresh = f; position = q.0; there = q.1 }
 
   -- t is the timestamp now

@@ -25,7 +25,8 @@ pub fn admit(
     if queue::is_spent(records, l, client, sequence) {
         return Err(Refusal::SpentKey);
     }
-    let position = queue::locate(records, l, client, sequence).ok_or(Refusal::NotPending)?;
+    let place = queue::locate(records, l, client, sequence);
+    let position = place.position.ok_or(Refusal::NotPending)?;
     if model::LAST_TIMESTAMP <= cells::get(records, layout::TIMESTAMP) {
         return Err(Refusal::LastTimestamp);
     }

@@ -1,11 +1,10 @@
 -- What the code's tests say, and the causes that turn an early delivery back by these. Assumes nothing.
 use Rattle.std.specs.Prelude.{◌≡◌, Bool, false, not, List, [], ◌∷◌, ℕ, ◌≤◌, ◌<◌, leb, ltb, length, Option, Some, None}
 use Rattle.std.specs.Option.{is_some}
-use Rattle.std.proofs.Common.{sym, arith}
+use Rattle.std.proofs.Common.{arith}
 use Rattle.std.proofs.Math.Bool.{true}
 use Rattle.std.proofs.Math.ListN.{length-map}
-use Rattle.operation.specs.Body.{is_well_formed, decoded}
-use Rattle.operation.proofs.BodyLaws.{taken, refused}
+use Rattle.operation.specs.Body.{is_well_formed}
 use Rattle.model.specs.declared.Limits.{Limits}
 use Rattle.model.specs.declared.OptimisticPosition.{OptimisticPosition}
 use Rattle.model.specs.Lists.{index}
@@ -14,36 +13,25 @@ use Rattle.model.specs.Replica.{Pending, Replica, has_key, facts}
 use Rattle.layout.specs.Layout.{Areas, parse}
 use Rattle.layout.specs.Fit.{fit}
 use Rattle.layout.specs.Holds.{Holds}
+use Rattle.queue.specs.declared.Place.{Place}
 use Rattle.queue.specs.Place.{Stands, Located}
 use Rattle.queue.specs.Found.{position, queued}
 
--- ---- what the code tests, of answers that are Options
-
--- the queue's
-module _ {l : Limits} {b : List ℕ} {c s : ℕ} {r : Option OptimisticPosition} (e : Located l b c s r) where
-  pub among : is_some r ≡ true → (u : Replica) → Holds l b u → index (has_key c s) u.pending < length u.pending
-  among m u h = by r m (e.stands u h)
+-- ---- what the code tests, of the position that the queue answers
+module _ {l : Limits} {b : List ℕ} {c s : ℕ} {r : Place} (e : Located l b c s r) where
+  pub among : is_some r.position ≡ true → (u : Replica) → Holds l b u → index (has_key c s) u.pending < length u.pending
+  among m u h = by r.position m (e.stands u h)
     where
       by : (o : Option OptimisticPosition) → is_some o ≡ true → Stands c s u o → index (has_key c s) u.pending < length u.pending
       by None n f = cc
       by (Some p) n f = omega (arith, f.0, f.1)
 
-  pub not-among : is_some r ≡ false → (u : Replica) → Holds l b u → length u.pending ≤ index (has_key c s) u.pending
-  not-among m u h = by r m (e.stands u h)
+  pub not-among : is_some r.position ≡ false → (u : Replica) → Holds l b u → length u.pending ≤ index (has_key c s) u.pending
+  not-among m u h = by r.position m (e.stands u h)
     where
       by : (o : Option OptimisticPosition) → is_some o ≡ false → Stands c s u o → length u.pending ≤ index (has_key c s) u.pending
       by None n f = omega arith
       by (Some p) n f = cc
-
--- the decoder's
-module _ (m n : ℕ) (x : List ℕ) where
-  pub well-formed : (r : Option ℕ) → r ≡ decoded m n x → is_some r ≡ true → is_well_formed m n x ≡ true
-  well-formed None e k = cc
-  well-formed (Some i) e k = (taken m n i x (sym e)).0
-
-  pub ill-formed : (r : Option ℕ) → r ≡ decoded m n x → is_some r ≡ false → is_well_formed m n x ≡ false
-  ill-formed None e k = refused m n x (sym e)
-  ill-formed (Some i) e k = cc
 
 -- ---- the causes
 

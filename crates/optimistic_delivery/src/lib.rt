@@ -46,14 +46,15 @@ pub fn deliver_optimistic(
     if queue::is_spent(records, l, client, sequence) {
         return Err(Refusal::SpentKey);
     }
-    if queue::locate(records, l, client, sequence).is_some() {
+    let place = queue::locate(records, l, client, sequence);
+    let count = place.count;
+    if place.position.is_some() {
         return Err(Refusal::AlreadyPending);
     }
     let objects = cells::get(records, layout::size_at(l)) as usize;
-    if operation_decoder::decode(body, l.operations, objects).is_none() {
+    let Some(_) = operation_decoder::decode(body, l.operations, objects) else {
         return Err(Refusal::MalformedBody);
-    }
-    let count = cells::get(records, layout::pending_at(l)) as usize;
+    };
     if l.pending <= count {
         return Err(Refusal::QueueFull);
     }

@@ -13,6 +13,13 @@ ghost use Rattle.queue.specs.Shown.{Shown};
 
 use model::{Found, Limits, OptimisticPosition, Refusal};
 
+// Where a transaction stands among the pending ones, in optimistic order, if it is one of them, and how many there are.
+#[derive(Clone, Copy)]
+pub struct Place {
+    pub position: Option<OptimisticPosition>,
+    pub count: usize,
+}
+
 // Whether a client's key is spent: its sequence number is not above the client's last number.
 pub fn is_spent(records: &[u8], l: Limits, client: u32, sequence: u32) -> bool
     requires sane { Sane l × (client < clients) }
@@ -22,8 +29,8 @@ pub fn is_spent(records: &[u8], l: Limits, client: u32, sequence: u32) -> bool
     u64::from(sequence) <= cells::get(records, layout::last_at(l, client as usize))
 }
 
-// Where a transaction stands among the pending ones, in optimistic order; None where it is not among them.
-pub fn locate(records: &[u8], l: Limits, client: u32, sequence: u32) -> Option<OptimisticPosition>
+// Looks a transaction up among the pending ones.
+pub fn locate(records: &[u8], l: Limits, client: u32, sequence: u32) -> Place
     requires sane { Sane l }
     requires holding { Holding l records.now }
     ensures { Located l records.now client sequence result }
@@ -31,8 +38,11 @@ pub fn locate(records: &[u8], l: Limits, client: u32, sequence: u32) -> Option<O
     let count = cells::get(records, layout::pending_at(l)) as usize;
     let at = layout::row_at(l, 0) * 8;
     let key = layout::key_cell(client, sequence);
-    let i = layout::key_index(&records[at..], layout::row_width(l), count, key)?;
-    Some(OptimisticPosition(i as u32))
+    let position = match layout::key_index(&records[at..], layout::row_width(l), count, key) {
+        Some(i) => Some(OptimisticPosition(i as u32)),
+        None => None,
+    };
+    Place { position, count }
 }
 
 // Find: the optimistic position of a pending transaction and the length of its body.
@@ -51,7 +61,8 @@ pub fn find(
     if model::CLIENTS <= client {
         return Err(Refusal::UnknownClient);
     }
-    let position = locate(records, l, client, sequence).ok_or(Refusal::NotPending)?;
+    let place = locate(records, l, client, sequence);
+    let position = place.position.ok_or(Refusal::NotPending)?;
     let at = layout::body_at(l, position.0 as usize);
     let length = operation::body_length(operation::small(bodies[at])) as u32;
     Ok(Found { position, length })

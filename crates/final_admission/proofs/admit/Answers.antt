@@ -23,7 +23,7 @@ standing : (c : In_ok-position) (u : Replica) → Holds c.args.l c.args.records.
 unfolding clients
 standing c u h =
     let f = is-fresh c.requires.sane h c.if-client-ge-CLIENTS.false c.is_spent.ensures c.if-is_spent.false in
-    is-standing c.requires.sane h f c.locate.ensures c.in_ok-position.ensures.ok_part
+    is-standing c.requires.sane h f c.locate-place.ensures c.in_ok-position.ensures.ok_part
 
 pub returns-then-client-ge-CLIENTS : goal.returns-then-client-ge-CLIENTS
 unfolding clients
@@ -42,7 +42,7 @@ pub returns-in_err-position : goal.returns-in_err-position
 returns-in_err-position c =
     let f = fresh (goal.at.returns-in_err-position c).Else-is_spent in
     let p = err_from_is_err_and c.from_residual.result c.from_residual.ensures.1 in
-    rw (p.1, p.2) (record { judged = λ u h. is-missing c.requires.sane h (f u h) c.locate.ensures c.in_err-position.ensures.value })
+    rw (p.1, p.2) (record { judged = λ u h. is-missing c.requires.sane h (f u h) c.locate-place.ensures c.in_err-position.ensures.value })
 
 pub returns-then-get-ge-LAST_TIMESTAMP : goal.returns-then-get-ge-LAST_TIMESTAMP
 unfolding last_timestamp

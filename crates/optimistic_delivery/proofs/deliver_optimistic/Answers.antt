@@ -1,19 +1,19 @@
 -- Each refusal is the first cause that holds, and what is written holds one transaction more.
-use Rattle.std.proofs.Common.{◌≡◌, true, false, not, ◌≤◌, ◌∙◌, sym, ap, subst, ℕ, arith, rules, length}
+use Rattle.std.proofs.Common.{◌≡◌, true, false, ◌≤◌, ◌∙◌, sym, subst, ℕ, arith, rules, length}
 use Rattle.cells.specs.Cells.{Below}
 use Rattle.operation.specs.Body.{is_well_formed}
-use Rattle.operation.proofs.BodyLaws.{formed}
+use Rattle.operation.proofs.BodyLaws.{formed, taken, refused}
 use Rattle.model.specs.Calls.{clients, spent}
 use Rattle.layout.specs.Layout.{parse}
 use Rattle.layout.specs.Contract.{Passed}
 use Rattle.layout.proofs.HoldsLaws.{holds-long, bodies-long}
-use Rattle.layout.proofs.Reading.{size-read, count-read}
+use Rattle.layout.proofs.Reading.{size-read}
 use Rattle.layout.proofs.ContractLaws.{passed, met_by}
 use Rattle.queue.specs.Found.{position}
-use Rattle.optimistic_delivery.proofs.DeliveredTests.{among, not-among, well-formed, ill-formed}
+use Rattle.optimistic_delivery.proofs.DeliveredTests.{among, not-among}
 use Rattle.optimistic_delivery.proofs.DeliveredLaws.{deliver-3, deliver-4, deliver-5, deliver-6, deliver-7, deliver-0}
 use Rattle.optimistic_delivery.proofs.deliver_optimistic.Goals as goal
-use Rattle.optimistic_delivery.proofs.deliver_optimistic.Goals.{Start, Else-client-ge-CLIENTS, Else-is_spent, Else-is_some, After-get-objects, Else-is_none, After-get-count}
+use Rattle.optimistic_delivery.proofs.deliver_optimistic.Goals.{Start, Else-client-ge-CLIENTS, Else-is_spent, Else-is_some, After-get-objects, In-Some}
 
 -- ---- what the tests say, one after another
 
@@ -28,19 +28,16 @@ fresh c k = sym (c.is_spent.ensures.test _ k.holds) ∙ c.if-is_spent.false
 
 absent : (c : Else-is_some) → Passed c.args.l (c.args.records.now, c.args.bodies.now)
     → (let s = c.args in length (parse s.l (s.records.now, s.bodies.now)).pending ≤ position s.l (s.records.now, s.bodies.now) c.requires.bodies_value s.client s.sequence)
-absent c k = not-among c.locate.ensures (sym c.is_some.ensures ∙ c.if-is_some.false) _ k.holds
+absent c k = not-among c.locate-place.ensures (sym c.is_some.ensures ∙ c.if-is_some.false) _ k.holds
 
 objects : (c : After-get-objects) → Passed c.args.l (c.args.records.now, c.args.bodies.now) → c.get-objects.result ≡ length (parse c.args.l (c.args.records.now, c.args.bodies.now)).objects
 objects c k = size-read c.args.l c.requires.supported.sane c.args.records.now _ k.holds c.size_at.result c.get-objects.result c.get-objects.ensures c.size_at.ensures.exact
 
-count : (c : After-get-count) → Passed c.args.l (c.args.records.now, c.args.bodies.now) → c.get-count.result ≡ length (parse c.args.l (c.args.records.now, c.args.bodies.now)).pending
-count c k = count-read c.args.l c.requires.supported.sane c.args.records.now _ k.holds c.pending_at.result c.get-count.result c.get-count.ensures c.pending_at.ensures.exact
-
-well : (c : Else-is_none) → (let s = c.args in c.get-objects.result ≡ length (parse s.l (s.records.now, s.bodies.now)).objects)
+well : (c : In-Some) → (let s = c.args in c.get-objects.result ≡ length (parse s.l (s.records.now, s.bodies.now)).objects)
     → (let s = c.args in is_well_formed s.l.operations (length (parse s.l (s.records.now, s.bodies.now)).objects) s.body.now ≡ true)
 well c e =
     subst (λ (n : ℕ). is_well_formed c.args.l.operations n c.args.body.now ≡ true) e
-    (well-formed c.args.l.operations c.get-objects.result c.args.body.now c.decode.result c.decode.ensures (c.is_none.ensures ∙ ap not c.if-is_none.false))
+    (taken c.args.l.operations c.get-objects.result _ c.args.body.now (sym c.in-Some.ensures)).0
 
 -- ---- the goals
 
@@ -64,9 +61,9 @@ returns-then-is_spent c =
     let k = held (goal.at.returns-then-is_spent c).Else-client-ge-CLIENTS in
     met_by (deliver-4 s.l (s.records.now, s.bodies.now) c.requires.bodies_value s.client s.sequence s.body.now c.if-client-ge-CLIENTS.false (sym (c.is_spent.ensures.test _ k.holds) ∙ c.if-is_spent.true))
 
-pub locate-requires-clause-holding : goal.locate-requires-clause-holding
-locate-requires-clause-holding c =
-    record { replica = _; holds = (held (goal.at.locate-requires-clause-holding c).Else-client-ge-CLIENTS).holds }
+pub locate-place-requires-clause-holding : goal.locate-place-requires-clause-holding
+locate-place-requires-clause-holding c =
+    record { replica = _; holds = (held (goal.at.locate-place-requires-clause-holding c).Else-client-ge-CLIENTS).holds }
 
 pub returns-then-is_some : goal.returns-then-is_some
 unfolding clients
@@ -76,28 +73,23 @@ returns-then-is_some c =
     let k = held at.Else-client-ge-CLIENTS in
     met_by
     (deliver-5 s.l (s.records.now, s.bodies.now) c.requires.bodies_value s.client s.sequence s.body.now c.if-client-ge-CLIENTS.false (fresh at.Else-is_spent k)
-    (among c.locate.ensures (sym c.is_some.ensures ∙ c.if-is_some.true) _ k.holds))
+    (among c.locate-place.ensures (sym c.is_some.ensures ∙ c.if-is_some.true) _ k.holds))
 
 pub get-objects-requires : goal.get-objects-requires
 get-objects-requires c =
     let k = held (goal.at.get-objects-requires c).Else-client-ge-CLIENTS in
     omega (arith, holds-long c.args.l c.requires.supported.sane c.args.records.now _ k.holds)
 
-pub returns-then-is_none : goal.returns-then-is_none
+pub returns-in_default : goal.returns-in_default
 unfolding clients
-returns-then-is_none c =
+returns-in_default c =
     let s = c.args in
-    let at = goal.at.returns-then-is_none c in
+    let at = goal.at.returns-in_default c in
     let k = held at.Else-client-ge-CLIENTS in
     met_by
     (deliver-6 s.l (s.records.now, s.bodies.now) c.requires.bodies_value s.client s.sequence s.body.now c.if-client-ge-CLIENTS.false (fresh at.Else-is_spent k) (absent at.Else-is_some k)
     (subst (λ (n : ℕ). is_well_formed s.l.operations n s.body.now ≡ false) (objects at.After-get-objects k)
-    (ill-formed s.l.operations c.get-objects.result s.body.now c.decode.result c.decode.ensures (c.is_none.ensures ∙ ap not c.if-is_none.true))))
-
-pub get-count-requires : goal.get-count-requires
-get-count-requires c =
-    let k = held (goal.at.get-count-requires c).Else-client-ge-CLIENTS in
-    omega (arith, holds-long c.args.l c.requires.supported.sane c.args.records.now _ k.holds)
+    (refused s.l.operations c.get-objects.result s.body.now (sym c.in_default.ensures))))
 
 pub returns-then-l-count : goal.returns-then-l-count
 unfolding clients
@@ -107,14 +99,14 @@ returns-then-l-count c =
     let k = held at.Else-client-ge-CLIENTS in
     met_by
     (deliver-7 s.l (s.records.now, s.bodies.now) c.requires.bodies_value s.client s.sequence s.body.now c.if-client-ge-CLIENTS.false (fresh at.Else-is_spent k) (absent at.Else-is_some k)
-    (well at.Else-is_none (objects at.After-get-objects k)) (omega (arith, count at.After-get-count k)))
+    (well at.In-Some (objects at.After-get-objects k)) (omega (arith, c.locate-place.ensures.count _ k.holds)))
 
 pub append-requires-clause-room : goal.append-requires-clause-room
 append-requires-clause-room c =
     let s = c.args in
     let at = goal.at.append-requires-clause-room c in
     let k = held at.Else-client-ge-CLIENTS in
-    let body = formed s.l.operations _ s.body.now (well at.Else-is_none (objects at.After-get-objects k)) in
+    let body = formed s.l.operations _ s.body.now (well at.In-Some (objects at.After-get-objects k)) in
     record {
       records = holds-long s.l c.requires.supported.sane s.records.now _ k.holds;
       bodies = bodies-long s.l c.requires.supported.sane s.bodies.now _ k.bodies;
@@ -128,8 +120,8 @@ returns c =
     let s = c.args in
     let at = goal.at.returns c in
     let k = held at.Else-client-ge-CLIENTS in
-    let n = count at.After-get-count k in
+    let n = c.locate-place.ensures.count _ k.holds in
     met_by
     (deliver-0 s.l (s.records.now, s.bodies.now) c.requires.bodies_value s.client s.sequence s.body.now c.if-client-ge-CLIENTS.false (fresh at.Else-is_spent k) (absent at.Else-is_some k)
-    (well at.Else-is_none (objects at.After-get-objects k)) (omega (arith, n, c.if-l-count.false)) c.requires.supported.sane (omega arith) k.holds k.bodies
-    c.get-count.result c.key_cell.result n c.key_cell.ensures c.append.new.records c.append.new.bodies c.append.ensures)
+    (well at.In-Some (objects at.After-get-objects k)) (omega (arith, n, c.if-l-count.false)) c.requires.supported.sane (omega arith) k.holds k.bodies
+    c.locate-place.result.count c.key_cell.result n c.key_cell.ensures c.append.new.records c.append.new.bodies c.append.ensures)

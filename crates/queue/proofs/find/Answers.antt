@@ -20,7 +20,7 @@ held c = passed c.args.l c.requires.supported.sane _ (λ i. (c.type_inv.records 
 
 -- where the transaction stands
 stands : (c : In_ok-position) → Passed c.args.l (c.args.records.now, c.args.bodies.now) → (let s = c.args in Stands s.client s.sequence (parse s.l (s.records.now, s.bodies.now)) (Some c.in_ok-position.position))
-stands c k = found-there c.locate.ensures c.in_ok-position.ensures.ok_part _ k.holds
+stands c k = found-there c.locate-place.ensures c.in_ok-position.ensures.ok_part _ k.holds
 
 low : (c : In_ok-position) → Passed c.args.l (c.args.records.now, c.args.bodies.now) → c.in_ok-position.position.0 < c.args.l.pending
 low c k = omega (arith, (stands c k).1, few_pending c.args.l _ k.holds.fits)
@@ -33,8 +33,8 @@ returns-then-client-ge-CLIENTS c =
     met-query s.l c.requires.supported.sane a (λ i. (c.type_inv.records i).fits) c.requires.bodies_value (Query.find s.client s.sequence) _
     (find-3 s.l a c.requires.bodies_value s.client s.sequence (omega arith))
 
-pub locate-requires-clause-holding : goal.locate-requires-clause-holding
-locate-requires-clause-holding c =
+pub locate-place-requires-clause-holding : goal.locate-place-requires-clause-holding
+locate-place-requires-clause-holding c =
     record { replica = parse c.args.l (c.args.records.now, c.args.bodies.now); holds = (held c).holds }
 
 pub returns-in_err-position : goal.returns-in_err-position
@@ -43,7 +43,7 @@ returns-in_err-position c =
     let s = c.args in
     let k = held (goal.at.returns-in_err-position c).Else-client-ge-CLIENTS in
     let a : Areas = (s.records.now, s.bodies.now) in
-    let f = found-nowhere c.locate.ensures c.in_err-position.ensures.value in
+    let f = found-nowhere c.locate-place.ensures c.in_err-position.ensures.value in
     let p = err_from_is_err_and c.from_residual.result c.from_residual.ensures.1 in
     rw (p.1, p.2, f.0)
     (met-query s.l c.requires.supported.sane a (λ i. (c.type_inv.records i).fits) c.requires.bodies_value (Query.find s.client s.sequence) _

@@ -53,18 +53,21 @@ searched c u h =
     s.client s.sequence c.key_cell-key.result (omega arith) c.key_cell-key.ensures
 
 -- the position is below the limit, so that it fits
-pub overflow_cast-result : goal.overflow_cast-result
-overflow_cast-result c =
+pub overflow_cast-position : goal.overflow_cast-position
+overflow_cast-position c =
     let s = c.args in
     let H = c.requires.holding in
-    omega (arith, c.in_ok-i.ensures.0, the-count (goal.at.overflow_cast-result c).After-key_index H.replica H.holds, few_pending s.l H.replica H.holds.fits, c.requires.sane.pending)
+    omega (arith, c.in-Some.ensures.0, the-count (goal.at.overflow_cast-position c).After-key_index H.replica H.holds, few_pending s.l H.replica H.holds.fits, c.requires.sane.pending)
 
-pub returns-in_err-i : goal.returns-in_err-i
-returns-in_err-i c =
-    let k = (goal.at.returns-in_err-i c).After-key_index in
-    rw c.from_residual.ensures (record { stands = λ u h. sym (searched k u h) ∙ c.in_err-i.ensures ∙ the-count k u h })
+pub returns-in-Some : goal.returns-in-Some
+returns-in-Some c =
+    let k = (goal.at.returns-in-Some c).After-key_index in
+    record {
+      stands = λ u h. (c.in-Some.ensures.1 ∙ searched k u h, omega (arith, c.in-Some.ensures.0, the-count k u h));
+      count = the-count k;
+    }
 
-pub returns : goal.returns
-returns c =
-    let k = (goal.at.returns c).After-key_index in
-    record { stands = λ u h. (c.in_ok-i.ensures.1 ∙ searched k u h, omega (arith, c.in_ok-i.ensures.0, the-count k u h)) }
+pub returns-in-None : goal.returns-in-None
+returns-in-None c =
+    let k = (goal.at.returns-in-None c).After-key_index in
+    record { stands = λ u h. sym (searched k u h) ∙ c.in-None.ensures ∙ the-count k u h; count = the-count k }
