@@ -1,12 +1,12 @@
 // Answers in the papers' numbers, as structs that C can take: 0 and the results, or a refusal's number and zeros.
 #![tactic(auto)]
 
-ghost use Rattle.std.specs.Prelude.{◌+◌};
+ghost use Rattle.std.specs.Prelude.{◌+◌, Ok};
 ghost use Rattle.model.specs.Calls.{preview_places};
 ghost use Rattle.model.specs.Answers.{reply, execution, delivery, reading, finding, preview};
-ghost use Rattle.ffi_numbers.specs.AnswerNumbers.{lone, executed, committed, valued, found, previewed, Numbered};
+ghost use Rattle.ffi_numbers.specs.AnswerNumbers.{lone, executed, committed, valued, found, previewed, NumberedBy};
 
-use model::{Commit, Preview, Refusal, Version};
+use model::{Commit, Preview, Version};
 
 // Work: operations carried out, pending transactions now finished. Here and below a number of its own, and not a Result: the C interface.
 #[repr(C)]
@@ -58,41 +58,45 @@ pub struct Previewed {
     pub values: [i64; 128],
 }
 
-// An answer that is 0 or a refusal, as its number. A function, since neither type is of this crate.
-pub fn reply_number(r: Result<(), Refusal>) -> u32
-    ensures { Numbered 0 (lone result) (reply r) }
+// An answer that is 0 or a refusal, as its number. A function, since neither type is of this crate. Here and below a refusal is a `Refusal`, a `u32`, or
+// what else has a number.
+pub fn reply_number<R: Into<u32>>(r: Result<(), R>) -> u32
+    ensures { NumberedBy 0 (lone result) (λ u. reply (Ok u)) R.converts r }
 {
     match r {
         Ok(()) => 0,
-        Err(refusal) => u32::from(refusal),
+        Err(refusal) => refusal.into(),
     }
 }
 
 // Work's answer in the paper's numbers.
-impl From<Result<model::Executed, Refusal>> for Executed {
-    ghost from_gives = { λ answer n. Numbered 2 (executed n) (execution answer) };
+impl<R: Into<u32>> From<Result<model::Executed, R>> for Executed {
+    ghost from_gives = { λ answer n. NumberedBy 2 (executed n) (λ x. execution (Ok x)) R.converts answer };
 
-    fn from(answer: Result<model::Executed, Refusal>) -> Executed {
+    fn from(answer: Result<model::Executed, R>) -> Executed {
         match answer {
             Ok(e) => Executed {
                 number: 0,
                 operations: e.operations,
                 finished: e.finished,
             },
-            Err(refusal) => Executed {
-                number: u32::from(refusal),
-                operations: 0,
-                finished: 0,
-            },
+            Err(refusal) => {
+                let k = refusal.into();
+                Executed {
+                    number: k,
+                    operations: 0,
+                    finished: 0,
+                }
+            }
         }
     }
 }
 
 // A final delivery's answer in the paper's numbers.
-impl From<Result<Commit, Refusal>> for Committed {
-    ghost from_gives = { λ answer n. Numbered 5 (committed n) (delivery answer) };
+impl<R: Into<u32>> From<Result<Commit, R>> for Committed {
+    ghost from_gives = { λ answer n. NumberedBy 5 (committed n) (λ x. delivery (Ok x)) R.converts answer };
 
-    fn from(answer: Result<Commit, Refusal>) -> Committed {
+    fn from(answer: Result<Commit, R>) -> Committed {
         match answer {
             Ok(c) => Committed {
                 number: 0,
@@ -102,63 +106,72 @@ impl From<Result<Commit, Refusal>> for Committed {
                 stored: c.stored,
                 operations: c.operations,
             },
-            Err(refusal) => Committed {
-                number: u32::from(refusal),
-                outcome: 0,
-                kept: 0,
-                stamp: 0,
-                stored: 0,
-                operations: 0,
-            },
+            Err(refusal) => {
+                let k = refusal.into();
+                Committed {
+                    number: k,
+                    outcome: 0,
+                    kept: 0,
+                    stamp: 0,
+                    stored: 0,
+                    operations: 0,
+                }
+            }
         }
     }
 }
 
 // Read's answer in the paper's numbers.
-impl From<Result<Version, Refusal>> for Valued {
-    ghost from_gives = { λ answer n. Numbered 2 (valued n) (reading answer) };
+impl<R: Into<u32>> From<Result<Version, R>> for Valued {
+    ghost from_gives = { λ answer n. NumberedBy 2 (valued n) (λ x. reading (Ok x)) R.converts answer };
 
-    fn from(answer: Result<Version, Refusal>) -> Valued {
+    fn from(answer: Result<Version, R>) -> Valued {
         match answer {
             Ok(v) => Valued {
                 number: 0,
                 value: v.value,
                 stamp: v.timestamp.0,
             },
-            Err(refusal) => Valued {
-                number: u32::from(refusal),
-                value: 0,
-                stamp: 0,
-            },
+            Err(refusal) => {
+                let k = refusal.into();
+                Valued {
+                    number: k,
+                    value: 0,
+                    stamp: 0,
+                }
+            }
         }
     }
 }
 
 // Find's answer in the paper's numbers.
-impl From<Result<model::Found, Refusal>> for Found {
-    ghost from_gives = { λ answer n. Numbered 2 (found n) (finding answer) };
+impl<R: Into<u32>> From<Result<model::Found, R>> for Found {
+    ghost from_gives = { λ answer n. NumberedBy 2 (found n) (λ x. finding (Ok x)) R.converts answer };
 
-    fn from(answer: Result<model::Found, Refusal>) -> Found {
+    fn from(answer: Result<model::Found, R>) -> Found {
         match answer {
             Ok(f) => Found {
                 number: 0,
                 place: f.position.0,
                 length: f.length,
             },
-            Err(refusal) => Found {
-                number: u32::from(refusal),
-                place: 0,
-                length: 0,
-            },
+            Err(refusal) => {
+                let k = refusal.into();
+                Found {
+                    number: k,
+                    place: 0,
+                    length: 0,
+                }
+            }
         }
     }
 }
 
 // A dry run's answer in the paper's numbers.
-impl From<Result<Preview, Refusal>> for Previewed {
-    ghost from_gives = { λ answer n. Numbered (3 + preview_places) (previewed n) (preview answer) };
+impl<R: Into<u32>> From<Result<Preview, R>> for Previewed {
+    ghost from_gives = { λ answer n. NumberedBy (3 + preview_places) (previewed n) (λ x. preview (Ok x)) R.converts answer };
 
-    fn from(answer: Result<Preview, Refusal>) -> Previewed {
+    fn from(answer: Result<Preview, R>) -> Previewed {
         match answer {
             Ok(p) => {
                 let values = p.values;
@@ -171,12 +184,13 @@ impl From<Result<Preview, Refusal>> for Previewed {
                 }
             }
             Err(refusal) => {
+                let k = refusal.into();
                 let values = [0; 128];
                 Previewed {
-                    number: u32::from(refusal),
+                    number: k,
                     outcome: 0,
                     kept: 0,
-                    stamp: 0,
+                    stamp: 0, // a delivery that would be refused gets none
                     values,
                 }
             }

@@ -6,7 +6,7 @@ use Rattle.ffi_numbers.proofs.reply_number.Goals as goal
 
 pub returns-in-Ok : goal.returns-in-Ok
 unfolding numbers
-returns-in-Ok c = rw c.in-Ok.is (record { says = λ k e. refl })
+returns-in-Ok g c = rw c.in-Ok.is (record { says = λ k e. refl })
 
 pub returns-in-Err : goal.returns-in-Err
-returns-in-Err c = rw (c.in-Err.is, c.from.ensures) (turned_back 0 _)
+returns-in-Err g c = rw c.in-Err.is (_, c.into.ensures, turned_back 0 _)

@@ -2,11 +2,11 @@
 use Rattle.std.proofs.Common.{refl}
 use Rattle.model.specs.Calls.{numbers}
 use Rattle.ffi_numbers.specs.AnswerNumbers.{turned_back}
-use Rattle.ffi_numbers.proofs.ExecutedFromResultModelExecutedRefusal.from.Goals as goal
+use Rattle.ffi_numbers.proofs.ExecutedFromResultModelExecuted.from.Goals as goal
 
 pub returns-in-Ok : goal.returns-in-Ok
 unfolding numbers
-returns-in-Ok c = rw c.in-Ok.is (record { says = λ k e. refl })
+returns-in-Ok g c = rw c.in-Ok.is (record { says = λ k e. refl })
 
 pub returns-in-Err : goal.returns-in-Err
-returns-in-Err c = rw (c.in-Err.is, c.from.ensures) (turned_back 2 _)
+returns-in-Err g c = rw c.in-Err.is (_, c.into-k.ensures, turned_back 2 _)

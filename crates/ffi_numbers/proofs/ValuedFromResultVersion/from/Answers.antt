@@ -2,13 +2,13 @@
 use Rattle.std.proofs.Common.{refl, rules, w64, FitsSigned, to_z-of_z}
 use Rattle.model.specs.Calls.{numbers}
 use Rattle.ffi_numbers.specs.AnswerNumbers.{turned_back}
-use Rattle.ffi_numbers.proofs.ValuedFromResultVersionRefusal.from.Goals as goal
+use Rattle.ffi_numbers.proofs.ValuedFromResultVersion.from.Goals as goal
 
 pub returns-in-Ok : goal.returns-in-Ok
 unfolding numbers
-returns-in-Ok c =
+returns-in-Ok g c =
     let f : FitsSigned w64 c.in-Ok.v.value = search rules in
     rw (c.in-Ok.is, to_z-of_z f) (record { says = λ k e. refl })
 
 pub returns-in-Err : goal.returns-in-Err
-returns-in-Err c = rw (c.in-Err.is, c.from.ensures) (turned_back 2 _)
+returns-in-Err g c = rw c.in-Err.is (_, c.into-k.ensures, turned_back 2 _)
