@@ -1,5 +1,6 @@
 -- What the line of an answer says. Assumes nothing.
-use Rattle.std.specs.Prelude.{ℕ, suc, ◌+◌, ◌^◌, ◌<◌, ◌≡◌, refl, Bool, true, false, List, ◌∷◌, ℤ, pos, length, take, set, get_or, Result, Ok, Err}
+use Rattle.std.specs.Prelude.{ℕ, suc, ◌+◌, ◌^◌, ◌<◌, ◌≡◌, refl, Bool, true, false, List, ◌∷◌, ℤ, pos, length, take, set, get_or}
+use Rattle.std.specs.Prelude.{Result, Ok, Err}
 use Rattle.std.proofs.Common.{sym, subst, add-one, arith, take-suc, take-suc-set}
 use Rattle.std.specs.Int.{w64}
 use mir.Val.{to_z, bool_byte}

@@ -74,7 +74,7 @@ pub fn put_reading<R: Into<u32>>(out: &mut [u8], r: Result<Version, R>) -> usize
             let stamp = i64::from(v.timestamp.0);
             numerals::put_numbers(out, &[0, v.value, stamp])
         }
-        Err(refusal) => put_refusal::<3>(out, refusal.into()),
+        Err(refusal) => put_refusal::<3>(out, refusal.into()), // neither value nor stamp
     }
 }
 

@@ -1,10 +1,6 @@
 // Exports for C and Rust (include/jobstore.h): nothing but wrappers over `replica`, named by the papers' words.
 // A slice is a pointer and a length. A result is a number, or a struct whose first number is 0 or the refusal.
-#![tactic(
-    auto,
-    using(crate::specs::Exported::exported, ffi_numbers::specs::AnswerNumbers::numbered_told),
-    unfolding(model::specs::Limits::standard)
-)]
+#![tactic(auto, using(crate::specs::Exported::exported, ffi_numbers::specs::AnswerNumbers::numbered_told), unfolding(model::specs::Limits::standard))]
 
 ghost use Rattle.std.specs.Prelude.{◌≡◌};
 ghost use Rattle.model.specs.Calls.{by_values, opening, optimistic, execute, final, open_reader, read, close_reader, find, dry_run};
