@@ -1,8 +1,9 @@
 -- The budgeted run, as the loop of `execute` goes: what holds before and after each operation. Assumes nothing.
 use Prim.Native.Nat.{ℕ, zero, suc, ◌+◌, ◌-◌, ◌≤◌, ◌<◌}
-use Rattle.std.specs.Prelude.{◌≡◌, refl, Bool, true, false, cond, List, ℤ, length}
+use Rattle.std.specs.Prelude.{◌≡◌, refl, Bool, true, false, cond, ◌⊎◌, List, ℤ, length}
 use Rattle.std.proofs.Math.Path.{sym, ap}
-use Rattle.std.proofs.Common.{◌∙◌, zero-add}
+use Rattle.std.proofs.Common.{◌∙◌, inl, inr, zero-add, length-take-le}
+use Rattle.std.proofs.lemmas.Bool.{cases_lt}
 use Rattle.std.proofs.Math.Option.{some}
 use native.Mathlib.Omega.{arith}
 use Rattle.std.proofs.Math.Nat.{sub-zero}
@@ -17,7 +18,7 @@ use Rattle.execution.specs.Run.{Table, outside, Move, get, put, go, halt, move, 
 use Rattle.execution.proofs.ReadAgreement.{stay, steps-step, ended-past, enough}
 use Rattle.execution.proofs.Counting.{counted-ended}
 use Rattle.execution.proofs.RunShapeLaws.{stop-least}
-use Rattle.execution.specs.Arrays.{capacity, run_of_arrays, Lent}
+use Rattle.execution.specs.Arrays.{capacity, run_of_arrays, Bounded, Within, Lent}
 use Rattle.execution_interpreter.specs.Executes.{Executes, InArrays}
 
 module _ (T : Table) (b : List Operation) (budget : ℕ) (s : Run) where
@@ -67,6 +68,25 @@ pub lent-rewritten : {t : Counts} {reads writes : List Entry} (k : ℕ) → Lent
     → Lent (record { counter = t.counter; outcome = k; reads = t.reads; writes = t.writes }) reads writes
 lent-rewritten k h =
     record { bounded = record { reads = h.bounded.reads; writes = h.bounded.writes }; read_room = h.read_room; write_room = h.write_room }
+
+-- the counts that a budgeted run leaves: the lengths of its sets where it began before the last place of a body, else those with which it began
+pub counts_left : (T : Table) (b : List Operation) (budget : ℕ) (from t : Counts) (g g' : List ℤ) (reads writes reads' writes' : List Entry) (used : ℕ)
+    → Executes T b budget (run_of_arrays from g reads writes) (run_of_arrays t g' reads' writes') used
+    → Bounded from → Lent t reads' writes' → (Within from → Within t) → (capacity ≤ from.counter → t ≡ from)
+    → (let q = steps T b budget (run_of_arrays from g reads writes) in (t.reads ≡ length q.reads) × (t.writes ≡ length q.writes)) ⊎ (t ≡ from)
+counts_left T b budget from t g g' reads writes reads' writes' used x f l w past = by (cases_lt from.counter capacity)
+  where
+    q : Run
+    q = steps T b budget (run_of_arrays from g reads writes)
+
+    by : (from.counter < capacity) ⊎ (capacity ≤ from.counter) → ((t.reads ≡ length q.reads) × (t.writes ≡ length q.writes)) ⊎ (t ≡ from)
+    by (inl h) =
+        let k = w (record { reads = omega (arith, f.reads); writes = omega (arith, f.writes) }) in
+        inl (
+          sym (length-take-le t.reads reads' (omega (arith, k.reads, l.read_room))) ∙ ap (λ (p : Run). length p.reads) x.run,
+          sym (length-take-le t.writes writes' (omega (arith, k.writes, l.write_room))) ∙ ap (λ (p : Run). length p.writes) x.run,
+        )
+    by (inr h) = inr (past h)
 
 -- a run from its start with the most operations is the whole run
 pub run-whole : (T : Table) (b : List Operation) (t : Counts) (g : List ℤ) (reads writes : List Entry) → length b ≤ capacity
