@@ -150,8 +150,8 @@ module _ {xs body : List ℕ} {vs : List ℤ} {rest : Beside} {budget : ℕ} (r 
         record { few = omega (arith, r.few); long = omega (arith, r.long); registers = ap (λ (p : Run). length p.registers) k.run ∙ r.registers }
 
     -- its writes can be laid over the table
-    pub overlays : every (sound (object_count vs)) (take e.counts.writes writes) ≡ true
-    overlays = ap (λ (p : Run). every (sound (object_count vs)) p.writes) k.run ∙ r.sound
+    pub overlays : (e.counts.writes ≤ capacity) × (every (sound (object_count vs)) (take e.counts.writes writes) ≡ true)
+    overlays = (k.within.writes, ap (λ (p : Run). every (sound (object_count vs)) p.writes) k.run ∙ r.sound)
 
     -- ---- and stored
 

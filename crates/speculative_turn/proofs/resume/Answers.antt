@@ -24,7 +24,7 @@ pub is_finished-finished-requires : goal.is_finished-finished-requires
 is_finished-finished-requires c = some-body c.requires.ready_at.ready
 
 pub overlay-requires : goal.overlay-requires
-overlay-requires c = overlays c.requires.ready_at.ready (carried (goal.at.overlay-requires c).After-execute-e)
+overlay-requires c = (overlays c.requires.ready_at.ready (carried (goal.at.overlay-requires c).After-execute-e)).1
 
 pub returns-then-finished : goal.returns-then-finished
 returns-then-finished c =
