@@ -206,6 +206,6 @@ pub fn dry_run(
     requires shaped_value { shaped ≡ fit l (records.now, bodies.now) }
     ensures { Previews l client sequence (records.now, bodies.now) result }
 {
-    require_shape(shaped)?;
+    require_shape(shaped)?; // with 1, as Final delivery, whose answer it previews
     dry_run::dry_run(records, bodies, l, client, sequence)
 }
